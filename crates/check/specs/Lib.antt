@@ -1,0 +1,4 @@
+pub mod Faults
+pub mod Found
+pub mod Verdict
+pub mod Worked

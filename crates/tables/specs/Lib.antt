@@ -1,0 +1,10 @@
+pub mod Rows
+pub mod Words
+pub mod Forms
+pub mod Descent
+pub mod Types
+pub mod Cells
+pub mod Rules
+pub mod Layouts
+pub mod Views
+pub mod Places

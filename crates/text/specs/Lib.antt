@@ -1,0 +1,4 @@
+pub mod Scan
+pub mod Meaning
+pub mod Reasons
+pub mod Messages
