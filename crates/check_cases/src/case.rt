@@ -1,5 +1,5 @@
 // One case: a model and what the check is to answer.
-use check::check;
+use checking::check;
 use std::alloc::{AllocError, Global};
 use std::fmt;
 use tables::model::Model;

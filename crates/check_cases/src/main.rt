@@ -1,11 +1,13 @@
 // Checks the small models of a table of cases, and tells where the answer is not the expected one.
 // A line has the expected refusal (0 for none), the row that it tells (-1 for none), the number of notes that are lent, and the words of the model.
+#![tactic(auto)]
+
 mod case;
 mod tally;
 
 use anyhow::anyhow;
 use case::Case;
-use check::worked::worked_cases;
+use checking::worked::worked_cases;
 use std::fs;
 use tally::Tally;
 use text::read::read_words;

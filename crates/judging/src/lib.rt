@@ -1,4 +1,6 @@
 // Judging rows by their forms: which rule a row breaks first, if it breaks one.
+#![tactic(auto)]
+
 mod chains;
 pub mod exprs;
 mod link;

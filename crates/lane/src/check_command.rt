@@ -1,7 +1,7 @@
 // `lane check`: whether a model is good and, if not, why.
 use crate::failure::Failed;
 use crate::model;
-use check::check;
+use checking::check;
 use tables::model::Model;
 use text::verdict::{accepted, notes, refused};
 

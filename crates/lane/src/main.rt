@@ -1,4 +1,6 @@
 // The program `lane`: prints the tables of a model, and says whether it is good.
+#![tactic(auto)]
+
 mod check_command;
 mod command;
 mod failure;

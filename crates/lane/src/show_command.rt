@@ -1,7 +1,7 @@
 // `lane show`: the tables of a model, row by row.
 use crate::failure::Failed;
 use crate::model;
-use check::fault::CheckFault;
+use checking::fault::CheckFault;
 use notation::listing::listing;
 use text::verdict::refused;
 

@@ -2,7 +2,7 @@
 use crate::expression::{MAX_DEPTH, Operand};
 use crate::name::Name;
 use crate::sheet::Sheet;
-use std::fmt;
+use std::alloc::AllocError;
 use tables::form::{Form, StmtForm};
 
 // How many targets are printed; the rest of a longer chain is named by its row.
@@ -15,14 +15,14 @@ enum Side {
 }
 
 impl Sheet<'_> {
-    pub(crate) fn chain_row(self, out: &mut String, row: usize) -> fmt::Result {
+    pub(crate) fn chain_row(self, out: &mut String, row: usize) -> Result<(), AllocError> {
         self.chain_side(out, row, Side::Targets)?;
         write!(out, " := ")?;
         self.chain_side(out, row, Side::Values)
     }
 
     // The row's own part, and then those of the rows before, as far as the chain goes.
-    fn chain_side(self, out: &mut String, row: usize, side: Side) -> fmt::Result {
+    fn chain_side(self, out: &mut String, row: usize, side: Side) -> Result<(), AllocError> {
         let mut link = Name::Row(row);
         for _ in 0..MAX_TARGETS {
             let Some(at) = link.row() else {
@@ -50,7 +50,7 @@ impl Sheet<'_> {
         side: Side,
         place: usize,
         value: i32,
-    ) -> fmt::Result {
+    ) -> Result<(), AllocError> {
         let operand = match side {
             Side::Targets => Operand::place(Name::Row(place)),
             Side::Values => Operand::value(Name::Arg(value)),

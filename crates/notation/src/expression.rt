@@ -1,7 +1,7 @@
 // Expressions and places in Fiacre's notation.
 use crate::name::Name;
 use crate::sheet::Sheet;
-use std::fmt;
+use std::alloc::AllocError;
 use tables::form::{BinaryOp, ExprForm, Form, Sort, TypeForm, UnaryOp};
 
 // How deep an expression is printed: an operand that lies deeper is named by its row.
@@ -96,7 +96,7 @@ impl Sheet<'_> {
         reader: usize,
         operand: Operand,
         depth: usize,
-    ) -> fmt::Result {
+    ) -> Result<(), AllocError> {
         let name = operand.name;
         match self.sought(reader, operand) {
             Some((row, form)) if depth > 0 => {
@@ -121,7 +121,7 @@ impl Sheet<'_> {
         row: usize,
         form: ExprForm,
         depth: usize,
-    ) -> fmt::Result {
+    ) -> Result<(), AllocError> {
         let second = Name::before(row);
         match form {
             ExprForm::Literal { of, value } => self.literal(out, row, of, value),
@@ -160,7 +160,13 @@ impl Sheet<'_> {
     }
 
     // A number, or the name of a truth value.
-    fn literal(self, out: &mut String, row: usize, of: usize, value: i32) -> fmt::Result {
+    fn literal(
+        self,
+        out: &mut String,
+        row: usize,
+        of: usize,
+        value: i32,
+    ) -> Result<(), AllocError> {
         match (self.earlier(row, Name::Row(of)), value) {
             (Some((_, Form::TypeRow(TypeForm::Bool))), 0) => write!(out, "false"),
             (Some((_, Form::TypeRow(TypeForm::Bool))), 1) => write!(out, "true"),

@@ -1,4 +1,6 @@
 // The rows of a model in Fiacre's notation.
+#![tactic(auto)]
+
 mod chain;
 mod expression;
 pub mod listing;

@@ -5,7 +5,6 @@ ghost use Rattle.tables.specs.Words.{Sized};
 use crate::expression::MAX_DEPTH;
 use crate::sheet::Sheet;
 use std::alloc::{AllocError, Global};
-use std::fmt;
 use tables::form::Form;
 use tables::section::Section;
 use tables::sizes::sections;
@@ -18,13 +17,11 @@ pub fn listing(heap: Global, words: &[i32]) -> Result<Option<String>, AllocError
         return Ok(None);
     };
     let mut out = String::new(heap);
-    match list(&mut out, words, Sheet::of(words, ends)) {
-        Ok(()) => Ok(Some(out)),
-        Err(_) => Err(AllocError),
-    }
+    list(&mut out, words, Sheet::of(words, ends))?;
+    Ok(Some(out))
 }
 
-fn list(out: &mut String, words: &[i32], sheet: Sheet) -> fmt::Result {
+fn list(out: &mut String, words: &[i32], sheet: Sheet) -> Result<(), AllocError> {
     sizes_line(out, words)?;
     for row in 0..sheet.table.rows() {
         sheet.row_line(out, row)?;
@@ -32,7 +29,7 @@ fn list(out: &mut String, words: &[i32], sheet: Sheet) -> fmt::Result {
     Ok(())
 }
 
-fn sizes_line(out: &mut String, words: &[i32]) -> fmt::Result {
+fn sizes_line(out: &mut String, words: &[i32]) -> Result<(), AllocError> {
     let [types, variables, ports, expressions, statements, states, ..] = words else {
         return Ok(());
     };
@@ -55,7 +52,7 @@ fn section_name(section: Section) -> &'static str {
 }
 
 impl Sheet<'_> {
-    fn row_line(self, out: &mut String, row: usize) -> fmt::Result {
+    fn row_line(self, out: &mut String, row: usize) -> Result<(), AllocError> {
         let section = section_name(self.table.section(row));
         write!(out, "{row:>4}  {section:<10}  ")?;
         self.fields(out, row)?;
@@ -65,7 +62,7 @@ impl Sheet<'_> {
     }
 
     // The fields by name; a negative code has neither kind nor tail.
-    fn fields(self, out: &mut String, row: usize) -> fmt::Result {
+    fn fields(self, out: &mut String, row: usize) -> Result<(), AllocError> {
         let Some((code, arg)) = self.table.words_of(row) else {
             return Ok(());
         };
@@ -78,7 +75,7 @@ impl Sheet<'_> {
         }
     }
 
-    fn notation(self, out: &mut String, row: usize) -> fmt::Result {
+    fn notation(self, out: &mut String, row: usize) -> Result<(), AllocError> {
         match self.form(row) {
             None => write!(out, "?"),
             Some(Form::TypeRow(form)) => self.type_row(out, row, form),

@@ -4,7 +4,7 @@ ghost use Rattle.tables.specs.Words.{rows_of, Sized, Laid};
 ghost use Rattle.notation.specs.Formed.{Formed};
 
 use crate::name::Name;
-use std::fmt;
+use std::alloc::AllocError;
 use tables::ends::Ends;
 use tables::form::Form;
 use tables::table::Table;
@@ -47,23 +47,29 @@ impl<'a> Sheet<'a> {
         Some((row, form))
     }
 
-    pub(crate) fn variable(self, out: &mut String, name: Name) -> fmt::Result {
+    pub(crate) fn variable(self, out: &mut String, name: Name) -> Result<(), AllocError> {
         numbered(out, "v", name, self.ends.types, self.ends.variables)
     }
 
-    pub(crate) fn port(self, out: &mut String, name: Name) -> fmt::Result {
+    pub(crate) fn port(self, out: &mut String, name: Name) -> Result<(), AllocError> {
         numbered(out, "p", name, self.ends.variables, self.ends.ports)
     }
 
     // States are named by their number, not by their row.
-    pub(crate) fn state(self, out: &mut String, name: Name) -> fmt::Result {
+    pub(crate) fn state(self, out: &mut String, name: Name) -> Result<(), AllocError> {
         let states = self.ends.total.saturating_sub(self.ends.statements);
         numbered(out, "s", name, 0, states)
     }
 }
 
 // The number of the named row among the rows from `first` to before `end`.
-fn numbered(out: &mut String, letter: &str, name: Name, first: usize, end: usize) -> fmt::Result {
+fn numbered(
+    out: &mut String,
+    letter: &str,
+    name: Name,
+    first: usize,
+    end: usize,
+) -> Result<(), AllocError> {
     match name.row() {
         Some(row) if first <= row && row < end => {
             let number = row - first;

@@ -2,19 +2,24 @@
 use crate::expression::{MAX_DEPTH, Operand};
 use crate::name::Name;
 use crate::sheet::Sheet;
-use std::fmt;
+use std::alloc::AllocError;
 use tables::form::StmtForm;
 
 impl Sheet<'_> {
-    fn value(self, out: &mut String, reader: usize, name: Name) -> fmt::Result {
+    fn value(self, out: &mut String, reader: usize, name: Name) -> Result<(), AllocError> {
         self.operand(out, reader, Operand::value(name), MAX_DEPTH)
     }
 
-    fn place(self, out: &mut String, reader: usize, name: Name) -> fmt::Result {
+    fn place(self, out: &mut String, reader: usize, name: Name) -> Result<(), AllocError> {
         self.operand(out, reader, Operand::place(name), MAX_DEPTH)
     }
 
-    pub(crate) fn statement(self, out: &mut String, row: usize, form: StmtForm) -> fmt::Result {
+    pub(crate) fn statement(
+        self,
+        out: &mut String,
+        row: usize,
+        form: StmtForm,
+    ) -> Result<(), AllocError> {
         match form {
             StmtForm::Null => write!(out, "null"),
             StmtForm::Loop => write!(out, "loop"),
@@ -41,7 +46,7 @@ impl Sheet<'_> {
         }
     }
 
-    fn compound(self, out: &mut String, row: usize, form: StmtForm) -> fmt::Result {
+    fn compound(self, out: &mut String, row: usize, form: StmtForm) -> Result<(), AllocError> {
         match form {
             StmtForm::While { condition, body } => {
                 write!(out, "while ")?;
@@ -73,7 +78,7 @@ impl Sheet<'_> {
         }
     }
 
-    fn communication(self, out: &mut String, row: usize, form: StmtForm) -> fmt::Result {
+    fn communication(self, out: &mut String, row: usize, form: StmtForm) -> Result<(), AllocError> {
         match form {
             StmtForm::Synchronise { port } => self.port(out, Name::Arg(port)),
             StmtForm::Send { port, value } => {
@@ -90,7 +95,12 @@ impl Sheet<'_> {
         }
     }
 
-    pub(crate) fn state_row(self, out: &mut String, row: usize, statement: i32) -> fmt::Result {
+    pub(crate) fn state_row(
+        self,
+        out: &mut String,
+        row: usize,
+        statement: i32,
+    ) -> Result<(), AllocError> {
         let number = row.saturating_sub(self.ends.statements);
         write!(out, "from s{number} ")?;
         if statement == -1 {

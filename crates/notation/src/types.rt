@@ -1,13 +1,13 @@
 // Types, variables and ports in Fiacre's notation.
 use crate::name::Name;
 use crate::sheet::Sheet;
-use std::fmt;
+use std::alloc::AllocError;
 use tables::form::{Direction, Form, PortForm, TypeForm};
 
 // How many arrays around one another are printed.
 const MAX_ARRAYS: usize = 6;
 
-fn scalar(out: &mut String, form: TypeForm) -> fmt::Result {
+fn scalar(out: &mut String, form: TypeForm) -> Result<(), AllocError> {
     match form {
         TypeForm::Bool => write!(out, "bool"),
         TypeForm::Nat => write!(out, "nat"),
@@ -31,7 +31,12 @@ impl Sheet<'_> {
         }
     }
 
-    pub(crate) fn type_row(self, out: &mut String, row: usize, form: TypeForm) -> fmt::Result {
+    pub(crate) fn type_row(
+        self,
+        out: &mut String,
+        row: usize,
+        form: TypeForm,
+    ) -> Result<(), AllocError> {
         let mut row = row;
         let mut form = form;
         for _ in 0..MAX_ARRAYS {
@@ -48,21 +53,36 @@ impl Sheet<'_> {
         scalar(out, form)
     }
 
-    pub(crate) fn type_named(self, out: &mut String, reader: usize, name: Name) -> fmt::Result {
+    pub(crate) fn type_named(
+        self,
+        out: &mut String,
+        reader: usize,
+        name: Name,
+    ) -> Result<(), AllocError> {
         match self.earlier_type(reader, name) {
             Some((row, form)) => self.type_row(out, row, form),
             None => write!(out, "{name}"),
         }
     }
 
-    pub(crate) fn variable_row(self, out: &mut String, row: usize, of: i32) -> fmt::Result {
+    pub(crate) fn variable_row(
+        self,
+        out: &mut String,
+        row: usize,
+        of: i32,
+    ) -> Result<(), AllocError> {
         write!(out, "var ")?;
         self.variable(out, Name::Row(row))?;
         write!(out, " : ")?;
         self.type_named(out, row, Name::Arg(of))
     }
 
-    pub(crate) fn port_row(self, out: &mut String, row: usize, form: PortForm) -> fmt::Result {
+    pub(crate) fn port_row(
+        self,
+        out: &mut String,
+        row: usize,
+        form: PortForm,
+    ) -> Result<(), AllocError> {
         self.port(out, Name::Row(row))?;
         match form {
             PortForm::Plain => write!(out, " : none"),

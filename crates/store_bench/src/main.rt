@@ -1,4 +1,6 @@
 // What the calls of each store cost, at 64 and at 4096 cells.
+#![tactic(auto)]
+
 mod timing;
 
 use anyhow::anyhow;

@@ -1,4 +1,5 @@
 //! Stores of cells: what every store promises, the plain stores, and the window.
+#![tactic(auto)]
 
 pub mod bytes;
 pub mod fault;

@@ -18,7 +18,7 @@ pub struct Window<'a, S> {
 
 /// Whether a store has `count` cells from `first` on.
 pub fn window_fits<S: Store>(store: &S, first: usize, count: usize) -> Result<(), StoreFault>
-    ensures { MatchResult result (λ _. first + count ≤ length (cells store.now)) (λ e. (length (cells store.now) < first + count) × (e ≡ NoWindow)) }
+    ensures { MatchResult result (λ _. first + count ≤ length (S.cells store.now)) (λ e. (length (S.cells store.now) < first + count) × (e ≡ NoWindow)) }
 {
     let len = store.len();
     if first <= len && count <= len - first {

@@ -3,7 +3,7 @@ use Rattle.std.proofs.Common.{◌≡◌, ℕ, ◌-◌, List, [], ◌∷◌, leng
 use mathlib.Core.Logic.{∥∥₁_elim}
 use std.HLevel.{Π_prop}
 use native.Mathlib.Bridge.{le_prop}
-use denote.Struct.Props.{props, three_prop}
+use denote.Struct.Props.{props}
 use denote.Struct.Record.{Also-prop}
 use Rattle.tables.specs.contracts.form.Sort as sort_row
 use Rattle.tables.specs.contracts.section.Section as section_row
@@ -174,38 +174,38 @@ port_names_prop m r Plain = hlevel props
 port_names_prop m r (Carries way of) = refers_prop m r sort.DataType of
 
 expr_names_prop : (m : Rows) (r : ℕ) (f : ExprForm) → IsProp (ExprNames m r f)
-expr_names_prop m r (Literal of value) = search (props, refers_prop)
-expr_names_prop m r (Read of place) = search (props, refers_prop)
-expr_names_prop m r (Unary op of operand) = search (props, refers_prop)
-expr_names_prop m r (Binary op of left) = search (props, refers_prop)
-expr_names_prop m r (Conditional of condition) = search (props, refers_prop)
-expr_names_prop m r (Pair if_true) = search (props, refers_prop)
-expr_names_prop m r (Variable of variable) = search (props, refers_prop)
-expr_names_prop m r (Element of base) = search (props, refers_prop)
+expr_names_prop m r (Literal of value) = hlevel (props, refers_prop)
+expr_names_prop m r (Read of place) = hlevel (props, refers_prop)
+expr_names_prop m r (Unary op of operand) = hlevel (props, refers_prop)
+expr_names_prop m r (Binary op of left) = hlevel (props, refers_prop)
+expr_names_prop m r (Conditional of condition) = hlevel (props, refers_prop)
+expr_names_prop m r (Pair if_true) = hlevel (props, refers_prop)
+expr_names_prop m r (Variable of variable) = hlevel (props, refers_prop)
+expr_names_prop m r (Element of base) = hlevel (props, refers_prop)
 
 stmt_names_prop : (m : Rows) (r : ℕ) (f : StmtForm) → IsProp (StmtNames m r f)
 stmt_names_prop m r Null = hlevel props
-stmt_names_prop m r (On guard) = search (props, refers_prop)
-stmt_names_prop m r (Assign place value) = search (props, refers_prop)
-stmt_names_prop m r (Further place value) = let p = assignment_prop (form_at m (r - 1)) in search (props, refers_prop)
-stmt_names_prop m r (Any place) = search (props, refers_prop)
-stmt_names_prop m r (While condition body) = search (props, refers_prop)
-stmt_names_prop m r (If condition then) = search (props, refers_prop)
-stmt_names_prop m r (Sequence first second) = search (props, refers_prop)
-stmt_names_prop m r (Select left right) = search (props, refers_prop)
+stmt_names_prop m r (On guard) = hlevel (props, refers_prop)
+stmt_names_prop m r (Assign place value) = hlevel (props, refers_prop)
+stmt_names_prop m r (Further place value) = let p = assignment_prop (form_at m (r - 1)) in hlevel (props, refers_prop)
+stmt_names_prop m r (Any place) = hlevel (props, refers_prop)
+stmt_names_prop m r (While condition body) = hlevel (props, refers_prop)
+stmt_names_prop m r (If condition then) = hlevel (props, refers_prop)
+stmt_names_prop m r (Sequence first second) = hlevel (props, refers_prop)
+stmt_names_prop m r (Select left right) = hlevel (props, refers_prop)
 stmt_names_prop m r (To state) = hlevel props
 stmt_names_prop m r Loop = hlevel props
-stmt_names_prop m r (Synchronise port) = search (props, refers_prop)
-stmt_names_prop m r (Send port value) = search (props, refers_prop)
-stmt_names_prop m r (Receive port place) = search (props, refers_prop)
+stmt_names_prop m r (Synchronise port) = hlevel (props, refers_prop)
+stmt_names_prop m r (Send port value) = hlevel (props, refers_prop)
+stmt_names_prop m r (Receive port place) = hlevel (props, refers_prop)
 
 names_prop : (m : Rows) (r : ℕ) (f : Form) → IsProp (Names m r f)
 names_prop m r (TypeRow f) = type_names_prop m r f
-names_prop m r (VariableRow of) = search (props, refers_prop)
+names_prop m r (VariableRow of) = hlevel (props, refers_prop)
 names_prop m r (PortRow f) = port_names_prop m r f
 names_prop m r (ExprRow f) = expr_names_prop m r f
 names_prop m r (StmtRow f) = stmt_names_prop m r f
-names_prop m r (StateRow statement) = search (props, refers_prop)
+names_prop m r (StateRow statement) = hlevel (props, refers_prop)
 
 type_extends_prop : (m : Rows) (r : ℕ) (f : TypeForm) → IsProp (TypeExtends m r f)
 type_extends_prop m r type.Bool = hlevel props
@@ -227,38 +227,38 @@ extends_prop m r (StmtRow f) = hlevel props
 extends_prop m r (StateRow statement) = hlevel props
 
 unary_prop : (own a : TypeForm) (f : UnaryOp) → IsProp (UnaryTypes f own a)
-unary_prop own a Not = search (props, bool_prop)
-unary_prop own a Minus = search (props, numeric_prop, fits_prop)
-unary_prop own a Coerce = search (props, numeric_prop)
+unary_prop own a Not = hlevel (props, bool_prop)
+unary_prop own a Minus = hlevel (props, numeric_prop, fits_prop)
+unary_prop own a Coerce = hlevel (props, numeric_prop)
 
 binary_prop : (own a b : TypeForm) (f : BinaryOp) → IsProp (BinaryTypes f own a b)
-binary_prop own a b And = search (props, bool_prop)
-binary_prop own a b Or = search (props, bool_prop)
-binary_prop own a b Add = search (props, numeric_prop, fits_prop)
-binary_prop own a b Sub = search (props, numeric_prop, fits_prop)
-binary_prop own a b Mul = search (props, numeric_prop, fits_prop)
-binary_prop own a b Div = search (props, numeric_prop, fits_prop)
-binary_prop own a b Rem = search (props, numeric_prop, fits_prop)
-binary_prop own a b Equal = search (props, bool_prop, alike_prop)
-binary_prop own a b Unequal = search (props, bool_prop, alike_prop)
-binary_prop own a b Less = search (props, bool_prop, numeric_prop)
-binary_prop own a b AtMost = search (props, bool_prop, numeric_prop)
-binary_prop own a b Greater = search (props, bool_prop, numeric_prop)
-binary_prop own a b AtLeast = search (props, bool_prop, numeric_prop)
+binary_prop own a b And = hlevel (props, bool_prop)
+binary_prop own a b Or = hlevel (props, bool_prop)
+binary_prop own a b Add = hlevel (props, numeric_prop, fits_prop)
+binary_prop own a b Sub = hlevel (props, numeric_prop, fits_prop)
+binary_prop own a b Mul = hlevel (props, numeric_prop, fits_prop)
+binary_prop own a b Div = hlevel (props, numeric_prop, fits_prop)
+binary_prop own a b Rem = hlevel (props, numeric_prop, fits_prop)
+binary_prop own a b Equal = hlevel (props, bool_prop, alike_prop)
+binary_prop own a b Unequal = hlevel (props, bool_prop, alike_prop)
+binary_prop own a b Less = hlevel (props, bool_prop, numeric_prop)
+binary_prop own a b AtMost = hlevel (props, bool_prop, numeric_prop)
+binary_prop own a b Greater = hlevel (props, bool_prop, numeric_prop)
+binary_prop own a b AtLeast = hlevel (props, bool_prop, numeric_prop)
 
 element_prop : (of : ℕ) (index : TypeForm) (f : TypeForm) → IsProp (ElementTypes f of index)
 element_prop of index type.Bool = hlevel props
 element_prop of index type.Nat = hlevel props
 element_prop of index type.Int = hlevel props
 element_prop of index (type.Interval low span) = hlevel props
-element_prop of index (type.Array length element) = search (props, indexes_prop)
+element_prop of index (type.Array length element) = hlevel (props, indexes_prop)
 
 expr_types_prop : (m : Rows) (r : ℕ) (f : ExprForm) → IsProp (ExprTypes m r f)
 expr_types_prop m r (Literal of value) = has_prop value (type_at m of)
 expr_types_prop m r (Read of place) = fits_prop (type_of_row m (whole place)) (type_at m of)
 expr_types_prop m r (Unary op of operand) = unary_prop (type_at m of) (type_of_row m (whole operand)) op
 expr_types_prop m r (Binary op of left) = binary_prop (type_at m of) (type_of_row m (whole left)) (type_of_row m (r - 1)) op
-expr_types_prop m r (Conditional of condition) = three_prop (bool_prop (type_of_row m (whole condition))) (fits_prop (type_of_row m (whole (m.arg (r - 1)))) (type_at m of)) (fits_prop (type_of_row m (r - 2)) (type_at m of))
+expr_types_prop m r (Conditional of condition) = hlevel (props, bool_prop, fits_prop)
 expr_types_prop m r (Pair if_true) = hlevel props
 expr_types_prop m r (Variable of variable) = hlevel props
 expr_types_prop m r (Element of base) = element_prop of (type_of_row m (r - 1)) (type_of_row m (whole base))

@@ -1,4 +1,6 @@
 // The numbered tables of a model: what each row is, the rules that rows keep, and the view on checked tables.
+#![tactic(auto)]
+
 mod decode;
 pub mod ends;
 pub mod form;

@@ -5,9 +5,9 @@ use Rattle.std.specs.Fmt.{signed_decimal}
 use Rattle.tables.specs.declared.form.Form.{Form}
 use Rattle.tables.specs.Words.{Sized, rows_of}
 use Rattle.tables.specs.Forms.{form_at}
-use Rattle.check.specs.declared.fault.CheckFault.{CheckFault}
-use Rattle.check.specs.declared.fault.CheckFault.TheVariants.{Sizes, Notes, Row}
-use Rattle.check.specs.Faults.{number}
+use Rattle.checking.specs.declared.fault.CheckFault.{CheckFault}
+use Rattle.checking.specs.declared.fault.CheckFault.TheVariants.{Sizes, Notes, Row}
+use Rattle.checking.specs.Faults.{number}
 use Rattle.text.specs.declared.reason.Reason.{Reason}
 use Rattle.text.specs.declared.reason.Reason.TheVariants.{SizesWrong, NotesShort, NoForm, NoRow, NoState, IntervalEnd, ArrayLength, ManyCells, PortArray, IllTyped, IllStated, Communicates, ChainTargets}
 use Rattle.text.specs.Reasons.{fault_reason}

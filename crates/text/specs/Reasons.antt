@@ -8,8 +8,8 @@ use Rattle.tables.specs.declared.form.StmtForm.{StmtForm}
 use Rattle.tables.specs.declared.form.StmtForm.TheVariants as stmt
 use Rattle.tables.specs.declared.rule.Rule.{Rule}
 use Rattle.tables.specs.declared.rule.Rule.TheVariants.{Shape, Naming, Extent, Typing, Statement, Communication, Chain}
-use Rattle.check.specs.declared.fault.CheckFault.{CheckFault}
-use Rattle.check.specs.declared.fault.CheckFault.TheVariants.{Sizes, Notes, Row}
+use Rattle.checking.specs.declared.fault.CheckFault.{CheckFault}
+use Rattle.checking.specs.declared.fault.CheckFault.TheVariants.{Sizes, Notes, Row}
 use Rattle.text.specs.declared.reason.Reason.{Reason}
 use Rattle.text.specs.declared.reason.Reason.TheVariants.{SizesWrong, NotesShort, NoForm, NoRow, NoState, IntervalEnd, ArrayLength, ManyCells, PortArray, IllTyped, IllStated, Communicates, ChainTargets}
 

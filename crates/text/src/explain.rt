@@ -4,7 +4,7 @@ ghost use Rattle.text.specs.Reasons.{type_reason, extent_reason, statement_reaso
 ghost use Rattle.text.specs.Messages.{phrase};
 
 use crate::reason::Reason;
-use check::fault::CheckFault;
+use checking::fault::CheckFault;
 use tables::form::{Form, StmtForm, TypeForm};
 use tables::rule::Rule;
 

@@ -1,4 +1,6 @@
 // Models as text: reading and writing words, and printing verdicts and notes.
+#![tactic(auto)]
+
 pub mod error;
 mod explain;
 pub mod read;

@@ -3,7 +3,7 @@ ghost use Rattle.std.specs.Prelude.{◌≡◌, ◌∷◌, ◌++◌, IfOk, string
 ghost use Rattle.text.specs.Messages.{accepted_line, FormTold, Explained, notes_line};
 
 use crate::reason::Reason;
-use check::fault::CheckFault;
+use checking::fault::CheckFault;
 use std::alloc::{AllocError, Global};
 use tables::form::Form;
 use tables::sizes::sections;

@@ -1,4 +1,6 @@
 // What is read and printed, on examples.
+#![tactic(auto)]
+
 #[cfg(test)]
 mod listings;
 #[cfg(test)]

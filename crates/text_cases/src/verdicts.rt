@@ -1,5 +1,5 @@
 // The lines of verdicts and notes.
-use check::fault::CheckFault;
+use checking::fault::CheckFault;
 use std::alloc::Global;
 use std::process::Abort;
 use std::test::Fail;

@@ -1,4 +1,5 @@
 //! Stores with transactions, and several writes that are made together or not at all.
+#![tactic(auto)]
 
 pub mod change;
 pub mod changes;

@@ -1,4 +1,4 @@
 use Rattle.judging.proofs.chains.+count_targets.Given as goal
 
-abbrev pub decreases-count-targets : goal.decreases-count-targets
-decreases-count-targets l = l.q
+abbrev pub decreases-count_targets : goal.decreases-count_targets
+decreases-count_targets l = l.q

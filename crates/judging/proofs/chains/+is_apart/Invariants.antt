@@ -1,4 +1,4 @@
 use Rattle.judging.proofs.chains.+is_apart.Given as goal
 
-abbrev pub decreases-is-apart : goal.decreases-is-apart
-decreases-is-apart l = l.q
+abbrev pub decreases-is_apart : goal.decreases-is_apart
+decreases-is_apart l = l.q

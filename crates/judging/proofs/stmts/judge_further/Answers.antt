@@ -3,10 +3,10 @@ use Rattle.std.proofs.lemmas.Int.{ints, to_z-of_z}
 use Rattle.judging.proofs.ChainLaws.{joins, joined}
 use Rattle.judging.proofs.stmts.judge_further.Goals as goal
 
-pub joins-chain-requires : goal.joins-chain-requires
-joins-chain-requires c =
-    let target = c.in-ok-target.ensures in
-    let follows = c.if-not-follows-assignment.ensures.0 refl in
+pub joins_chain-requires : goal.joins_chain-requires
+joins_chain-requires c =
+    let target = c.in_ok-target.ensures in
+    let follows = c.if-not-follows_assignment.ensures.0 refl in
     record {
       inside = (omega (arith, ints), omega (arith, ints));
       good = λ q h. c.requires.good q (omega (arith, ints));
@@ -14,12 +14,12 @@ joins-chain-requires c =
       assigns = follows.1;
     }
 
-pub returns-then-joins-chain : goal.returns-then-joins-chain
-returns-then-joins-chain c =
+pub returns-then-joins_chain : goal.returns-then-joins_chain
+returns-then-joins_chain c =
     let f : SFits w32 c.args.value = c.ranges.value in
-    let target = c.in-ok-target.ensures in
-    let value = simp to_z-of_z at c.in-ok-value.ensures in
-    let follows = c.if-not-follows-assignment.ensures.0 refl in
+    let target = c.in_ok-target.ensures in
+    let value = simp to_z-of_z at c.in_ok-value.ensures in
+    let follows = c.if-not-follows_assignment.ensures.0 refl in
     let fits = c.if-not-fits.ensures.0 refl in
     let l : c.args.r - 1 < c.args.r = omega (arith, ints) in (
       (
@@ -29,17 +29,17 @@ returns-then-joins-chain c =
         tt,
         simp (target.1, value.1) at fits,
         tt,
-        joins _ _ _ _ c.requires.is l (c.requires.good (c.args.r - 1) l) follows.1 (c.if-joins-chain.ensures.0 refl),
+        joins _ _ _ _ c.requires.is l (c.requires.good (c.args.r - 1) l) follows.1 (c.if-joins_chain.ensures.0 refl),
       ),
       tt,
     )
 
-pub returns-else-joins-chain : goal.returns-else-joins-chain
-returns-else-joins-chain c =
+pub returns-else-joins_chain : goal.returns-else-joins_chain
+returns-else-joins_chain c =
     let f : SFits w32 c.args.value = c.ranges.value in
-    let target = c.in-ok-target.ensures in
-    let value = simp to_z-of_z at c.in-ok-value.ensures in
-    let follows = c.if-not-follows-assignment.ensures.0 refl in
+    let target = c.in_ok-target.ensures in
+    let value = simp to_z-of_z at c.in_ok-value.ensures in
+    let follows = c.if-not-follows_assignment.ensures.0 refl in
     let fits = c.if-not-fits.ensures.0 refl in
     let l : c.args.r - 1 < c.args.r = omega (arith, ints) in (
       c.requires.is,
@@ -49,7 +49,7 @@ returns-else-joins-chain c =
       simp (target.1, value.1) at fits,
       tt,
       (λ h.
-          let yes = c.if-joins-chain.ensures.1 (joined _ _ _ _ c.requires.is l h) in
+          let yes = c.if-joins_chain.ensures.1 (joined _ _ _ _ c.requires.is l h) in
           let z : ◌≡◌ {A = ℕ} 0 1 = cc in
           omega arith),
     )

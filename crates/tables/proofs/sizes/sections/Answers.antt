@@ -5,12 +5,12 @@ use Rattle.tables.proofs.sizes.sections.Goals.{then-states-eq0-via-then-states-e
 
 pub returns-then-states-eq0 : goal.returns-then-states-eq0
 returns-then-states-eq0 c =
-    let t = c.in-ok-types.ensures in
-    let v = c.in-ok-variables.ensures in
-    let p = c.in-ok-ports.ensures in
-    let e = c.in-ok-expressions.ensures in
-    let s = c.in-ok-statements.ensures in
-    let n = c.in-ok-states.ensures in
+    let t = c.in_ok-types.ensures in
+    let v = c.in_ok-variables.ensures in
+    let p = c.in_ok-ports.ensures in
+    let e = c.in_ok-expressions.ensures in
+    let s = c.in_ok-statements.ensures in
+    let n = c.in_ok-states.ensures in
     elim c.then-states-eq0.branch [
       | then-states-eq0-via-then-states-eq0 w ↦ λ z. omega arith
       | then-states-eq0-via-else-states-eq0+then-words-total w ↦ λ z. omega arith
@@ -19,12 +19,12 @@ returns-then-states-eq0 c =
 pub returns : goal.returns
 unfolding rows_of
 returns c =
-    let t = c.in-ok-types.ensures in
-    let v = c.in-ok-variables.ensures in
-    let p = c.in-ok-ports.ensures in
-    let e = c.in-ok-expressions.ensures in
-    let s = c.in-ok-statements.ensures in
-    let n = c.in-ok-states.ensures in (
+    let t = c.in_ok-types.ensures in
+    let v = c.in_ok-variables.ensures in
+    let p = c.in_ok-ports.ensures in
+    let e = c.in_ok-expressions.ensures in
+    let s = c.in_ok-statements.ensures in
+    let n = c.in_ok-states.ensures in (
       record {
         six = omega arith;
         types = t.0;

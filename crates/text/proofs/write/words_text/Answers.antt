@@ -9,7 +9,7 @@ use Rattle.text.proofs.write.words_text.Goals as goal
 pub loop-word-preserved : goal.loop-word-preserved
 loop-word-preserved c =
     let fits : SFits w32 (get_or c.args.words.now c.loop-word.word-index (pos 0)) = search rules in (
-      piece_more (λ z. signed_decimal z ++ (32 ∷ [])) [] c.args.words.now c.loop-word.word-index _ _ _ c.loop-word-test.true c.loop-word.invariant.0 (simp to_z-of_z at c.in-ok-put-word.ensures),
+      piece_more (λ z. signed_decimal z ++ (32 ∷ [])) [] c.args.words.now c.loop-word.word-index _ _ _ c.loop-word-test.true c.loop-word.invariant.0 (simp to_z-of_z at c.in_ok-put_word.ensures),
       below_more _ _ c.loop-word.invariant.1 fits.sfits,
     )
 

@@ -6,5 +6,5 @@ use Rattle.std.proofs.Common.{ap, ◌∙◌, arith}
 pub returns : goal.returns
 returns c =
     let ws = c.args.words.now in
-    let e = c.copy-within.ensures.after ∙ copied_is ws _ (omega arith) in
+    let e = c.copy_within.ensures.after ∙ copied_is ws _ (omega arith) in
     record { cells = ap front e ∙ front-copied ws; copy = ap back e ∙ back-copied ws; odd = ap odd e ∙ odd-copied ws }

@@ -5,5 +5,5 @@ use Rattle.std.proofs.Common.{rules}
 pub returns : goal.returns
 returns g c = search (rules, length-shown, shown_reads)
 
-pub returns-in-err-place : goal.returns-in-err-place
-returns-in-err-place g c = search (rules, length-shown)
+pub returns-in_err-place : goal.returns-in_err-place
+returns-in_err-place g c = search (rules, length-shown)

@@ -3,33 +3,19 @@ use Rattle.tables.specs.Words.{rows_of}
 use Rattle.tables.proofs.Idle.{idle_good, idle_laid}
 use Rattle.tables.proofs.model.Model.idle.Goals as goal
 
-pub invariant-of-result : goal.invariant-of-result
+pub invariant_of-result : goal.invariant_of-result
 unfolding rows_of
-invariant-of-result c = (
-  refl,
-  (
-    refl,
-    (
-      refl,
-      (
-        refl,
-        (
-          refl,
-          (
-            refl,
-            (
-              (omega arith, omega arith, omega arith, omega arith, omega arith),
-              (
-                (omega arith, omega arith, omega arith),
-                (refl, tt),
-              ),
-            ),
-          ),
-        ),
-      ),
-    ),
-  ),
-)
+invariant_of-result c = record {
+  types = refl;
+  variables = refl;
+  ports = refl;
+  expressions = refl;
+  statements = refl;
+  total = refl;
+  ordered = (omega arith, omega arith, omega arith, omega arith, omega arith);
+  small = (omega arith, omega arith, omega arith);
+  exact = refl;
+}
 
-pub invariant-of-result-2 : goal.invariant-of-result-2
-invariant-of-result-2 c = (∣ idle_good ∣₁, (∣ idle_laid c.empty.result c.empty.ensures ∣₁, tt))
+pub invariant_of-result-2 : goal.invariant_of-result-2
+invariant_of-result-2 c = record { good = ∣ idle_good ∣₁; laid = ∣ idle_laid c.empty.result c.empty.ensures ∣₁ }

@@ -1,4 +1,4 @@
 use Rattle.tables.proofs.model.Model.of.Goals as goal
 
-pub invariant-of-result : goal.invariant-of-result
-invariant-of-result c = (∣ c.requires.good ∣₁, (∣ c.requires.laid ∣₁, tt))
+pub invariant_of-result : goal.invariant_of-result
+invariant_of-result c = record { good = ∣ c.requires.good ∣₁; laid = ∣ c.requires.laid ∣₁ }

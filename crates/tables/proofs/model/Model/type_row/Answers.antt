@@ -11,9 +11,9 @@ use Rattle.tables.proofs.model.Model.type_row.Goals as goal
 pub returns : goal.returns
 returns c =
     let f : SFits w32 c.arg.result = search rules in
-    let z = simp to_z-of_z at c.unsigned-abs.ensures.value in
+    let z = simp to_z-of_z at c.unsigned_abs.ensures.value in
     let a = c.arg.ensures in
-    let v : c.unsigned-abs.result ≡ whole ((model_rows c.args.self).arg c.args.v) = cc in
+    let v : c.unsigned_abs.result ≡ whole ((model_rows c.args.self).arg c.args.v) = cc in
     let good = good_out _ _ c.args.self.good in
     let s = section_is (model_rows c.args.self) c.args.v Variables (omega arith, omega arith, omega arith, omega arith) c.requires in
     let t = variable_type (model_rows c.args.self) c.args.v (good c.args.v (omega arith)) s in

@@ -18,13 +18,13 @@ returns-in-Variable t c =
     (c.requires.good c.args.q (omega arith))
     c.in-Some.ensures
     c.in-Variable.is
-    (simp to_z-of_z at c.unsigned-abs.ensures.value) in
+    (simp to_z-of_z at c.unsigned_abs.ensures.value) in
     record { value = o.0; variable = o.1 }
 
 pub returns-in-Element : goal.returns-in-Element
 returns-in-Element t c =
     let f : SFits w32 c.in-Element.base = search rules in
-    let p = simp to_z-of_z at c.unsigned-abs-in-Element.ensures.value in
+    let p = simp to_z-of_z at c.unsigned_abs-in-Element.ensures.value in
     let b =
     base_variable
     (table_rows c.args.self)
@@ -38,5 +38,5 @@ returns-in-Element t c =
     c.in-Some.ensures
     c.in-Element.is
     p
-    c.variable-of.ensures.value in
-    record { value = b; variable = c.variable-of.ensures.variable }
+    c.variable_of.ensures.value in
+    record { value = b; variable = c.variable_of.ensures.variable }

@@ -1,4 +1,4 @@
 use Rattle.tables.proofs.table.Table.+variable_of.Given as goal
 
-abbrev pub decreases-variable-of : goal.decreases-variable-of
-decreases-variable-of l = l.q
+abbrev pub decreases-variable_of : goal.decreases-variable_of
+decreases-variable_of l = l.q

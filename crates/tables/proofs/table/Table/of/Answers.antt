@@ -2,32 +2,18 @@ use Rattle.std.proofs.Common.{arith}
 use Rattle.tables.specs.Words.{rows_of}
 use Rattle.tables.proofs.table.Table.of.Goals as goal
 
-pub invariant-of-result : goal.invariant-of-result
+pub invariant_of-result : goal.invariant_of-result
 unfolding rows_of
-invariant-of-result c =
+invariant_of-result c =
     let l = c.requires.laid in
-    let s = c.requires.sized in (
-      l.types,
-      (
-        l.variables,
-        (
-          l.ports,
-          (
-            l.expressions,
-            (
-              l.statements,
-              (
-                l.total,
-                (
-                  (omega arith, omega arith, omega arith, omega arith, omega arith),
-                  (
-                    (omega arith, omega arith, omega arith),
-                    (omega arith, tt),
-                  ),
-                ),
-              ),
-            ),
-          ),
-        ),
-      ),
-    )
+    let s = c.requires.sized in record {
+      types = l.types;
+      variables = l.variables;
+      ports = l.ports;
+      expressions = l.expressions;
+      statements = l.statements;
+      total = l.total;
+      ordered = (omega arith, omega arith, omega arith, omega arith, omega arith);
+      small = (omega arith, omega arith, omega arith);
+      exact = omega arith;
+    }
