@@ -1,5 +1,5 @@
 -- Cells in bytes: how many, which, and what a write of four bytes does.
-use Rattle.std.proofs.Common.{◌≡◌, ℕ, ◌+◌, ◌*◌, ◌/◌, ◌%◌, ◌^◌, ◌<◌, ◌≢◌, ◌⊎◌, List, length, get_or, drop, set, ℤ, pos, sym, ap, ◌∙◌, subst, ⊎_elim, mod-eq_of_lt, arith, w32, SFits, to_z, of_z}
+use Rattle.std.proofs.Common.{◌≡◌, ℕ, ◌+◌, ◌*◌, ◌/◌, ◌%◌, ◌^◌, ◌<◌, ◌≢◌, List, length, get_or, drop, set, ℤ, pos, sym, ap, ◌∙◌, subst, ⊎_elim, mod-eq_of_lt, arith, w32, SFits, to_z, of_z}
 use Rattle.std.proofs.lemmas.List.FromFn.{length-map-range_with_len, get_or-map-range_with_len}
 use Rattle.std.proofs.lemmas.List.{drop-set-lt, get_or-set_same, get_or-set_other, length-set, ext_get_or}
 use Rattle.std.proofs.lemmas.Int.{to_z-of_z}

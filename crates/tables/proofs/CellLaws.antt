@@ -1,5 +1,5 @@
 -- How cells, variables, targets and communication go from a row to those that it names.
-use Rattle.std.proofs.Common.{◌≡◌, ℕ, ◌+◌, ◌-◌, ◌*◌, ◌<◌, Bool, false, [], ◌∷◌, ℤ, Some, refl, ap, ◌∙◌, add-one, arith}
+use Rattle.std.proofs.Common.{◌≡◌, ℕ, ◌+◌, ◌-◌, ◌*◌, ◌<◌, false, [], ◌∷◌, ℤ, Some, refl, ap, ◌∙◌, add-one, arith}
 use Rattle.std.proofs.lemmas.Int.{ints}
 use Rattle.tables.specs.declared.form.TypeForm.{TypeForm}
 use Rattle.tables.specs.declared.form.TypeForm.TheVariants as type

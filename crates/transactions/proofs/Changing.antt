@@ -1,5 +1,5 @@
 -- What one more change does.
-use Rattle.std.proofs.Common.{◌≡◌, ℕ, zero, suc, ◌+◌, ◌<◌, ◌≤◌, ◌⊎◌, List, length, set, ℤ, Err, Result, sym, refl, ◌∙◌, subst, inl, inr, ⊎_elim, add-one, arith, below_more}
+use Rattle.std.proofs.Common.{◌≡◌, ℕ, zero, suc, ◌+◌, ◌<◌, ◌≤◌, List, length, set, ℤ, Err, Result, sym, refl, ◌∙◌, subst, inl, inr, ⊎_elim, add-one, arith, below_more}
 use Rattle.stores.specs.Meaning.{Unwritable}
 use Rattle.stores.specs.declared.fault.StoreFault.{StoreFault}
 use Rattle.std.proofs.lemmas.List.{length-set}

@@ -1,5 +1,5 @@
 -- The two halves of words, and what a copy of one over the other does.
-use Rattle.std.proofs.Common.{◌≡◌, ℕ, ◌+◌, ◌-◌, ◌/◌, ◌<◌, List, ◌++◌, length, get_or, take, drop, set, ℤ, pos, sym, ap, ◌∙◌, zero-add, arith, length-append, length-drop, length-take}
+use Rattle.std.proofs.Common.{◌≡◌, ℕ, ◌+◌, ◌/◌, ◌<◌, List, ◌++◌, length, get_or, take, drop, set, ℤ, pos, sym, ap, ◌∙◌, zero-add, arith, length-append, length-drop, length-take}
 use Rattle.std.proofs.lemmas.List.{append_assoc, drop_at, drop-drop, drop-set-lt, get_or-take, length-set, length-take-le, take_at}
 use Rattle.transactions.specs.Halves.{half, front, back, odd}
 use lib.Seq.{paste, take-set-lt}

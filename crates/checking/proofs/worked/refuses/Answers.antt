@@ -1,5 +1,5 @@
 -- The fault that the check tells is the one that there is.
-use Rattle.std.proofs.Common.{◌≡◌, ◌∙◌, subst, sym, Bool, true}
+use Rattle.std.proofs.Common.{◌≡◌, ◌∙◌, subst, sym, true}
 use Rattle.checking.specs.declared.fault.CheckFault.{CheckFault}
 use Rattle.checking.specs.contracts.fault.CheckFaultPartialEq.TheImpl.{ghosts}
 use Rattle.checking.specs.contracts.fault.CheckFaultEq.TheImpl.Laws.{laws-law}
