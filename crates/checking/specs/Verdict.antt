@@ -27,12 +27,12 @@ Faulty ws notes Sizes = Sized ws → ⊥
 Faulty ws notes Notes = Sized ws × (notes < (rows_of ws).total)
 Faulty ws notes (Row r n) = Sized ws × ((rows_of ws).total ≤ notes) × FirstBroken (rows_of ws) r n
 
--- accepted are well_formed words with notes enough; others are refused with their first fault
+-- accepted are well-formed words with notes enough; others are refused with their first fault
 abbrev pub Verdict : List ℤ → ℕ → Result (Unit {0}) CheckFault → Type 0
 Verdict ws notes (Ok x) = WellFormed ws × ((rows_of ws).total ≤ notes)
 Verdict ws notes (Err f) = Faulty ws notes f
 
--- well_formed words with notes enough are always accepted, and a fault that there is is the one that is told
+-- well-formed words with notes enough are always accepted, and a fault that there is is the one that is told
 pub record Exactly (ws : List ℤ) (notes : ℕ) (o : Result (Unit {0}) CheckFault) : Type 0 where
   pub accepts : WellFormed ws → (rows_of ws).total ≤ notes → is_ok o ≡ true
   pub refuses : (f : CheckFault) → Faulty ws notes f → o ≡ Err f
