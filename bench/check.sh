@@ -6,15 +6,15 @@
 # RUNS is how often each command is run, 200 if not said. The ratio of the two costs should stay below 1.5;
 # a check that went through the earlier rows again at each row would show one near 4. Ends with status 1 if
 # the ratio is above, and with 2 if nothing could be measured. LANE may name another program than
-# target/bin/lane, which `rt check` builds.
+# crates/lane/out/lane, which `rt run` builds in the folder crates/lane.
 set -eu
 
 runs=${1:-200}
 here=$(cd "$(dirname "$0")" && pwd)
-lane=${LANE:-$here/../target/bin/lane}
+lane=${LANE:-$here/../crates/lane/out/lane}
 
 if [ ! -x "$lane" ]; then
-    echo "there is no $lane: build it with rt check" >&2
+    echo "there is no $lane: build it with rt run in crates/lane" >&2
     exit 2
 fi
 

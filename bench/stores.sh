@@ -5,12 +5,12 @@
 #     bench/stores.sh [ROUNDS]
 #
 # ROUNDS times 256 writes are made of each store, 20000 if not said. STORE_BENCH may name another program
-# than target/bin/store_bench, which `rt check` builds.
+# than crates/store_bench/out/store_bench, which `rt run` builds in the folder crates/store_bench.
 set -eu
 
-bench=${STORE_BENCH:-$(cd "$(dirname "$0")" && pwd)/../target/bin/store_bench}
+bench=${STORE_BENCH:-$(cd "$(dirname "$0")" && pwd)/../crates/store_bench/out/store_bench}
 if [ ! -x "$bench" ]; then
-    echo "there is no $bench: build it with rt check" >&2
+    echo "there is no $bench: build it with rt run in crates/store_bench" >&2
     exit 2
 fi
 exec "$bench" "${1:-20000}"

@@ -12,8 +12,10 @@ top=$(cd "$(dirname "$0")/.." && pwd)
 work=$(mktemp -d)
 trap 'rm -rf "$work"' EXIT
 mkdir -p "$work/crates/forgets/src"
-cp -r "$top/crates/stores" "$top/crates/transactions" "$work/crates/"
-rm -rf "$work/crates/stores/must-fail" "$work/crates/transactions/must-fail"
+for crate in stores transactions; do
+    mkdir "$work/crates/$crate"
+    cp -r "$top/crates/$crate/src" "$top/crates/$crate/specs" "$top/crates/$crate/proofs" "$work/crates/$crate/"
+done
 cat > "$work/crates.txt" <<'LIST'
 stores:
 transactions: stores
@@ -23,12 +25,12 @@ LIST
 # The program, with what is given as its last lines.
 program() {
     cat > "$work/crates/forgets/src/lib.rt" <<'CODE'
+#![tactic(auto)]
+
 use stores::fault::StoreFault;
 use stores::store::TransactionalStore;
 use stores::words::Words;
-use stores::words::WordsPlainStore;
 use transactions::journal::Journal;
-use transactions::journal::JournalTransactions;
 
 pub fn set_first(words: &mut [i32]) -> Result<(), StoreFault> {
     let mut store = Words::new(words);
@@ -38,23 +40,23 @@ CODE
     printf '%s\n' "$@" '}' >> "$work/crates/forgets/src/lib.rt"
 }
 
-cd "$work"
+cd "$work/crates/forgets"
 program '    journal.write(0, 1)'
-if rt dev forgets > forgetting.log 2>&1; then
+if rt check > "$work/forgetting.log" 2>&1; then
     echo "a forgotten token is accepted" >&2
     exit 1
 fi
-if ! words=$(grep -o 'error\[linear-value-let-go\]: `token`.*`JournalToken` is not `Drop`.*' forgetting.log); then
+if ! words=$(grep -o 'error\[linear-value-let-go\]: `token`.*`JournalToken` is not `Drop`.*' "$work/forgetting.log"); then
     echo "the program is refused, but not for its token:" >&2
-    tail -n 5 forgetting.log >&2
+    tail -n 5 "$work/forgetting.log" >&2
     exit 1
 fi
 echo "forgetting the token: $words"
 
 program '    let wrote = journal.write(0, 1);' '    journal.commit(token)?;' '    wrote'
-if ! rt dev forgets > spending.log 2>&1; then
+if ! rt check > "$work/spending.log" 2>&1; then
     echo "the program that spends its token is refused:" >&2
-    tail -n 5 spending.log >&2
+    tail -n 5 "$work/spending.log" >&2
     exit 1
 fi
 echo "spending the token: accepted"

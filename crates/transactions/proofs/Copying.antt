@@ -22,8 +22,8 @@ length_front ws = length-take-le (half ws) ws (omega arith)
 pub length_back : (ws : List ℤ) → length (back ws) ≡ half ws
 length_back ws = simp (length-take, length-drop) (omega arith)
 
-pub get_d_front : (ws : List ℤ) (i : ℕ) → i < half ws → get_or (front ws) i (pos 0) ≡ get_or ws i (pos 0)
-get_d_front ws i h = get_or-take (half ws) ws i (pos 0) h
+pub get_or_front : (ws : List ℤ) (i : ℕ) → i < half ws → get_or (front ws) i (pos 0) ≡ get_or ws i (pos 0)
+get_or_front ws i h = get_or-take (half ws) ws i (pos 0) h
 
 pub front_set : (ws : List ℤ) (i : ℕ) (v : ℤ) → i < half ws → front (set ws i v) ≡ set (front ws) i v
 front_set ws i v h = rw length-set (take-set-lt (half ws) ws i v h)
