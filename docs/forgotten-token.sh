@@ -18,7 +18,7 @@ for crate in stores transactions; do
 done
 cat > "$work/crates.txt" <<'LIST'
 stores:
-transactions: stores
+transactions: stores arrayvec
 forgets: transactions stores
 LIST
 

@@ -1,10 +1,19 @@
-// Rounds of 256 writes, timed.
+// Rounds of writes, timed.
 use anyhow::anyhow;
+use std::ops::AddAssign;
 use std::time::{Duration, Instant};
 use stores::store::{MAX_WRITES, PlainStore, Store, TransactionalStore};
 
+// How many writes a round has: as many as a transaction takes.
+pub(crate) const WRITES: u32 = 256;
+
+const _: () = prove!(WRITES as usize == MAX_WRITES);
+
+// How far on the next cell is that is written.
+const STEP: usize = 37;
+
 // How long the calls of a transactional store took, all rounds together.
-#[derive(Clone, Copy)]
+#[derive(Clone, Copy, Default)]
 pub(crate) struct Times {
     pub begin: Duration,
     pub write: Duration,
@@ -12,15 +21,19 @@ pub(crate) struct Times {
     pub rollback: Duration,
 }
 
-// The cell that is written after `at`: 37 further on, round the end.
-fn next(at: usize, len: usize) -> usize {
-    let to = at.saturating_add(37);
-    if to < len { to } else { to.saturating_sub(len) }
+impl AddAssign for Times {
+    fn add_assign(&mut self, other: Times) {
+        self.begin = self.begin.saturating_add(other.begin);
+        self.write = self.write.saturating_add(other.write);
+        self.commit = self.commit.saturating_add(other.commit);
+        self.rollback = self.rollback.saturating_add(other.rollback);
+    }
 }
 
-// A value that differs from round to round.
-fn value(round: u32) -> i32 {
-    (round & 0xffff) as i32
+// The cell that is written after `at`, round the end.
+fn next(at: usize, len: usize) -> usize {
+    let to = at.saturating_add(STEP);
+    if to < len { to } else { to.saturating_sub(len) }
 }
 
 pub(crate) fn plain<S: PlainStore>(
@@ -32,8 +45,8 @@ pub(crate) fn plain<S: PlainStore>(
     let mut at = 0;
     let start = Instant::now(rt)?;
     for round in 0..rounds {
-        for _ in 0..MAX_WRITES {
-            let _ = store.write(at, value(round));
+        for _ in 0..WRITES {
+            let _ = store.write(at, round.cast_signed());
             at = next(at, len);
         }
     }
@@ -46,15 +59,11 @@ pub(crate) fn transactional<S: TransactionalStore>(
     store: &mut S,
     rounds: u32,
 ) -> anyhow::Result<Times> {
-    let mut times = Times {
-        begin: Duration::ZERO,
-        write: Duration::ZERO,
-        commit: Duration::ZERO,
-        rollback: Duration::ZERO,
-    };
+    let mut times = Times::default();
     for round in 0..rounds {
-        committed(rt, store, value(round), &mut times)?;
-        rolled_back(rt, store, value(round), &mut times)?;
+        let value = round.cast_signed();
+        times += committed(rt, store, value)?;
+        times += rolled_back(rt, store, value)?;
     }
     Ok(times)
 }
@@ -62,46 +71,51 @@ pub(crate) fn transactional<S: TransactionalStore>(
 fn write_all<S: TransactionalStore>(store: &mut S, value: i32) {
     let len = store.len();
     let mut at = 0;
-    for _ in 0..MAX_WRITES {
+    for _ in 0..WRITES {
         let _ = store.write(at, value);
         at = next(at, len);
     }
 }
 
+// A token is spent before a reading of the clock can end the round.
 fn committed<S: TransactionalStore>(
     rt: &HostRuntime,
     store: &mut S,
     value: i32,
-    times: &mut Times,
-) -> anyhow::Result<()> {
+) -> anyhow::Result<Times> {
     let start = Instant::now(rt)?;
-    let Ok(token) = store.begin() else {
-        return Err(anyhow!("no transaction was begun"));
-    };
+    let token = begun(store)?;
     let begun = Instant::now(rt);
     write_all(store, value);
     let written = Instant::now(rt);
     let _ = store.commit(token);
     let (begun, written, ended) = (begun?, written?, Instant::now(rt)?);
-    times.begin = times.begin.saturating_add(begun.duration_since(start));
-    times.write = times.write.saturating_add(written.duration_since(begun));
-    times.commit = times.commit.saturating_add(ended.duration_since(written));
-    Ok(())
+    Ok(Times {
+        begin: begun.duration_since(start),
+        write: written.duration_since(begun),
+        commit: ended.duration_since(written),
+        ..Times::default()
+    })
 }
 
 fn rolled_back<S: TransactionalStore>(
     rt: &HostRuntime,
     store: &mut S,
     value: i32,
-    times: &mut Times,
-) -> anyhow::Result<()> {
-    let Ok(token) = store.begin() else {
-        return Err(anyhow!("no transaction was begun"));
-    };
+) -> anyhow::Result<Times> {
+    let token = begun(store)?;
     write_all(store, value);
     let written = Instant::now(rt);
     let _ = store.rollback(token);
     let (written, ended) = (written?, Instant::now(rt)?);
-    times.rollback = times.rollback.saturating_add(ended.duration_since(written));
-    Ok(())
+    Ok(Times {
+        rollback: ended.duration_since(written),
+        ..Times::default()
+    })
+}
+
+fn begun<S: TransactionalStore>(store: &mut S) -> anyhow::Result<S::Token> {
+    store
+        .begin()
+        .map_err(|_| anyhow!("no transaction was begun"))
 }

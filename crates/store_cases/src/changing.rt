@@ -1,4 +1,5 @@
 //! Several changes, all or none.
+use crate::transactional::begun;
 use std::test::Fail;
 use stores::fault::StoreFault;
 use stores::store::{Store, TransactionalStore};
@@ -58,9 +59,7 @@ fn as_many_changes_as_a_transaction_takes(rt: HostRuntime) {
 fn changes_want_a_transaction_of_their_own(rt: HostRuntime) -> Result<(), Fail> {
     let mut words = [1, 2, 0, 0];
     let mut store = Shadow::new(&mut words);
-    let Ok(token) = store.begin() else {
-        return Err(Fail::new("no transaction was begun"));
-    };
+    let token = begun(&mut store)?;
     let applied = apply(&mut store, &[change(0, 5)]);
     let seen = store.is_open();
     let ended = store.commit(token);

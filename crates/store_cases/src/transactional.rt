@@ -9,7 +9,12 @@ use stores::words::Words;
 use transactions::journal::Journal;
 use transactions::shadow::Shadow;
 
-const NO_TOKEN: &str = "no transaction was begun";
+// The token of a transaction that is begun.
+pub(crate) fn begun<S: TransactionalStore>(store: &mut S) -> Result<S::Token, Fail> {
+    store
+        .begin()
+        .map_err(|_| Fail::new("no transaction was begun"))
+}
 
 // A value to begin with, 0 past the end.
 fn value_at<S: Store>(store: &S, i: usize) -> i32 {
@@ -24,9 +29,7 @@ fn has_no_more_cells<S: TransactionalStore>(
     assert_eq!(rt; store.len(), len);
     assert_eq!(rt; store.read(len), Err(StoreFault::NoCell));
     assert_eq!(rt; store.write(len, 1), Err(StoreFault::NoCell));
-    let Ok(token) = store.begin() else {
-        return Err(Fail::new(NO_TOKEN));
-    };
+    let token = begun(store)?;
     let read = store.read(len);
     let wrote = store.write(len, 1);
     let ended = store.commit(token);
@@ -42,15 +45,10 @@ fn refuses_a_second_begin<S: TransactionalStore>(
 ) -> Result<(), Fail> {
     assert!(rt; !store.is_open());
     let before = value_at(store, 0);
-    let Ok(token) = store.begin() else {
-        return Err(Fail::new(NO_TOKEN));
-    };
+    let token = begun(store)?;
     let seen = store.is_open();
     let wrote = store.write(0, 77);
-    let again = match store.begin() {
-        Ok(second) => store.commit(second),
-        Err(fault) => Err(fault),
-    };
+    let again = store.begin().and_then(|second| store.commit(second));
     let ended = store.rollback(token);
     assert!(rt; seen);
     assert_eq!(rt; (wrote, again), (Ok(()), Err(StoreFault::TransactionOpen)));
@@ -70,9 +68,7 @@ fn commit_keeps_and_rollback_restores<S: TransactionalStore>(
 ) -> Result<(), Fail> {
     let before = value_at(store, 0);
     let other = value_at(store, 1);
-    let Ok(token) = store.begin() else {
-        return Err(Fail::new(NO_TOKEN));
-    };
+    let token = begun(store)?;
     let first = store.write(0, 111);
     let second = store.write(0, 222);
     let third = store.write(1, 333);
@@ -87,9 +83,7 @@ fn commit_keeps_and_rollback_restores<S: TransactionalStore>(
     );
     assert_eq!(rt; value_at(store, 1), other);
 
-    let Ok(token) = store.begin() else {
-        return Err(Fail::new(NO_TOKEN));
-    };
+    let token = begun(store)?;
     let wrote = store.write(1, 444);
     let ended = store.commit(token);
     assert_eq!(rt; (wrote, ended), (Ok(()), Ok(())));
@@ -101,15 +95,8 @@ fn commit_keeps_and_rollback_restores<S: TransactionalStore>(
 fn takes_256_writes<S: TransactionalStore>(rt: &impl Abort, store: &mut S) -> Result<(), Fail> {
     let before = value_at(store, 0);
     let len = store.len();
-    let Ok(token) = store.begin() else {
-        return Err(Fail::new(NO_TOKEN));
-    };
-    let mut refused = 0u32;
-    for k in 0..256 {
-        if store.write(0, k).is_err() {
-            refused = refused.saturating_add(1);
-        }
-    }
+    let token = begun(store)?;
+    let refused = (0..256).filter(|k| store.write(0, *k).is_err()).count();
     let next = store.write(0, 1000);
     let missing = store.write(len, 1000);
     let seen = value_at(store, 0);
@@ -148,19 +135,13 @@ where
     P: TransactionalStore<Token = S::Token>,
 {
     let before = value_at(store, 0);
-    let Ok(token) = store.begin() else {
-        return Err(Fail::new(NO_TOKEN));
-    };
+    let token = begun(store)?;
     let wrote = store.write(0, 55);
     let ended = store.commit(token);
     assert_eq!(rt; (wrote, ended), (Ok(()), Ok(())));
-    let Ok(token) = other.begin() else {
-        return Err(Fail::new(NO_TOKEN));
-    };
+    let token = begun(other)?;
     assert_eq!(rt; store.commit(token), Err(StoreFault::NoTransaction));
-    let Ok(token) = another.begin() else {
-        return Err(Fail::new(NO_TOKEN));
-    };
+    let token = begun(another)?;
     assert_eq!(rt; store.rollback(token), Err(StoreFault::NoTransaction));
     assert!(rt; !store.is_open());
     assert_eq!(rt; value_at(store, 0), 55);
@@ -245,9 +226,7 @@ fn only_a_begin_writes_the_copy(rt: HostRuntime) -> Result<(), Fail> {
     let mut words = [4, 5, 60, 50, 99];
     let mut shadow = Shadow::new(&mut words);
     assert_eq!(rt; shadow.write(0, 7), Ok(()));
-    let Ok(token) = shadow.begin() else {
-        return Err(Fail::new(NO_TOKEN));
-    };
+    let token = begun(&mut shadow)?;
     let wrote = shadow.write(1, 8);
     let ended = shadow.commit(token);
     assert_eq!(rt; (wrote, ended), (Ok(()), Ok(())));

@@ -1,5 +1,6 @@
 pub mod Beside
 pub mod Bytes
 pub mod Faults
+pub mod Lending
 pub mod Meaning
 pub mod Windows

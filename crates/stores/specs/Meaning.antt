@@ -1,5 +1,5 @@
 -- What the calls of a store promise, over what the store means before and after.
-use Rattle.std.specs.Prelude.{◌≡◌, ℕ, ◌+◌, ◌<◌, ◌≤◌, Bool, true, false, ◌⊎◌, List, length, ℤ, pos, Result, MatchResult, slice_index_or, slice_set}
+use Rattle.std.specs.Prelude.{◌≡◌, ℕ, ◌+◌, ◌<◌, ◌≤◌, Bool, true, false, ◌⊎◌, Option, None, Some, List, length, ℤ, pos, Result, MatchResult, slice_index_or, slice_set}
 use Rattle.stores.specs.Beside.{Beside}
 use Rattle.stores.specs.declared.fault.StoreFault.{StoreFault}
 use Rattle.stores.specs.declared.fault.StoreFault.TheVariants.{NoCell, TransactionFull}
@@ -93,7 +93,7 @@ WritesInside start writes i v r m n =
 abbrev pub BesideBegun : {U : Type 0} → (List ℤ → Beside → Beside) → List ℤ → Beside → Beside → Result U StoreFault → Type 0
 BesideBegun begun cs b d r = MatchResult r (λ _. d ≡ begun cs b) (λ _. d ≡ b)
 
--- the transaction of a store that holds whether one is open, its start and its writes: the last two count only while one is open
-abbrev pub transaction_of : Bool → List ℤ → ℕ → Transaction
-transaction_of true start writes = opened start writes
-transaction_of false start writes = closed
+-- the transaction of a store that counts its writes while one is open, and holds its start
+abbrev pub transaction_of : Option ℕ → List ℤ → Transaction
+transaction_of None start = closed
+transaction_of (Some writes) start = opened start writes

@@ -1,7 +1,7 @@
 //! Words as they are.
 
 ghost use Rattle.stores.specs.Beside.{a_number, nothing};
-ghost use Rattle.std.specs.Prelude.{◌≡◌};
+ghost use Rattle.stores.specs.Lending.{IsLent};
 
 use crate::fault::StoreFault;
 use crate::store::{PlainStore, Store};
@@ -15,8 +15,7 @@ pub struct Words<'a> {
 impl<'a> Words<'a> {
     /// The cells in lent words.
     pub fn new(words: &'a mut [i32]) -> Words<'a>
-        ensures value { result.words.now ≡ words.old }
-        ensures named { result.words.ghost_name ≡ words.entry.ghost_name }
+        ensures { IsLent words.entry result.words }
     {
         Words { words }
     }
@@ -32,15 +31,13 @@ impl<'a> Store for Words<'a> {
     }
 
     fn read(&self, i: usize) -> Result<i32, StoreFault> {
-        if i >= self.words.len() {
-            return Err(StoreFault::NoCell);
-        }
-        Ok(self.words[i])
+        self.words.get(i).copied().ok_or(StoreFault::NoCell)
     }
 }
 
 impl<'a> PlainStore for Words<'a> {
     fn write(&mut self, i: usize, v: i32) -> Result<(), StoreFault> {
+        // Of a slice's elements after its `get_mut` a proof knows nothing.
         if i >= self.words.len() {
             return Err(StoreFault::NoCell);
         }

@@ -1,10 +1,10 @@
 -- The cells and the spare bytes pin all bytes.
-use Rattle.std.proofs.Common.{◌≡◌, ℕ, ◌+◌, ◌-◌, ◌*◌, ◌/◌, ◌<◌, ◌≤◌, ◌≢◌, ◌⊎◌, List, length, get_or, drop, set, ℤ, pos, sym, ap, ◌∙◌, subst, inl, inr, ⊎_elim, arith, w8, w32, Fits, SFits, of_z}
+use Rattle.std.proofs.Common.{◌≡◌, ℕ, ◌+◌, ◌-◌, ◌*◌, ◌/◌, ◌<◌, ◌≤◌, ◌⊎◌, List, length, get_or, drop, set, ℤ, pos, sym, ap, ◌∙◌, subst, ⊎_elim, arith, w8, w32, Fits, SFits}
 use Rattle.stores.proofs.Laying.{cells_of-put, get_or-cells_of, length-cells_of, length-put, spare-put}
 use Rattle.stores.specs.Bytes.{cell_of, cell_at, cells_of, put, spare}
 use Rattle.std.proofs.lemmas.List.{get_or-set_same, get_or-set_other, get_or-drop, ext_get_or, set_past}
 use Rattle.std.proofs.lemmas.Int.{of_z-to_z}
-use Rattle.std.proofs.lemmas.Bool.{cases_eq, cases_lt}
+use Rattle.std.proofs.lemmas.Bool.{cases_lt}
 
 abbrev pub Fit : List ℕ → Type 0
 Fit bs = (k : ℕ) → Fits w8 (get_or bs k 0)
@@ -14,14 +14,7 @@ low_same a x b y h k e = (omega arith, omega arith)
 
 four_same : (a b c d p q r s : ℕ) → a < 256 → b < 256 → c < 256 → d < 256 → p < 256 → q < 256 → r < 256 → s < 256
     → cell_of a b c d ≡ cell_of p q r s → (a ≡ p) × (b ≡ q) × (c ≡ r) × (d ≡ s)
-four_same a b c d p q r s ha hb hc hd hp hq hr hs e =
-    let m = a + b * 256 + c * 65536 + d * 16777216 in
-    let n = p + q * 256 + r * 65536 + s * 16777216 in
-    let k : m ≡ n = sym (of_z-to_z w32 m (omega arith)) ∙ ap (of_z w32) e ∙ of_z-to_z w32 n (omega arith) in
-    let l0 = low_same a (b + 256 * (c + 256 * d)) p (q + 256 * (r + 256 * s)) ha hp (omega arith) in
-    let l1 = low_same b (c + 256 * d) q (r + 256 * s) hb hq l0.1 in
-    let l2 = low_same c d r s hc hr l1.1 in
-    (l0.0, l1.0, l2.0, l2.1)
+four_same a b c d p q r s ha hb hc hd hp hq hr hs e = grind (arith, of_z-to_z, low_same)
 
 fit_lt : (bs : List ℕ) → Fit bs → (k : ℕ) → get_or bs k 0 < 256
 fit_lt bs f k = (f k).fits
@@ -29,24 +22,13 @@ fit_lt bs f k = (f k).fits
 quad_same : (bs ds : List ℕ) → Fit bs → Fit ds → (i : ℕ) → cell_at bs i ≡ cell_at ds i
     → (get_or bs (4 * i) 0 ≡ get_or ds (4 * i) 0) × (get_or bs (4 * i + 1) 0 ≡ get_or ds (4 * i + 1) 0)
     × (get_or bs (4 * i + 2) 0 ≡ get_or ds (4 * i + 2) 0) × (get_or bs (4 * i + 3) 0 ≡ get_or ds (4 * i + 3) 0)
-quad_same bs ds f g i e =
-    four_same _ _ _ _ _ _ _ _ (fit_lt bs f (4 * i)) (fit_lt bs f (4 * i + 1)) (fit_lt bs f (4 * i + 2)) (fit_lt bs f (4 * i + 3))
-    (fit_lt ds g (4 * i)) (fit_lt ds g (4 * i + 1)) (fit_lt ds g (4 * i + 2)) (fit_lt ds g (4 * i + 3)) e
+quad_same bs ds f g i e = grind (arith, four_same, fit_lt)
 
 quarters : (k : ℕ) → ((k ≡ 4 * (k / 4)) ⊎ (k ≡ 4 * (k / 4) + 1)) ⊎ ((k ≡ 4 * (k / 4) + 2) ⊎ (k ≡ 4 * (k / 4) + 3))
-quarters k =
-    ⊎_elim (λ e. inl (inl e))
-    (λ n0. ⊎_elim (λ e. inl (inr e))
-    (λ n1. ⊎_elim (λ e. inr (inl e)) (λ n2. inr (inr (omega arith))) (cases_eq k (4 * (k / 4) + 2)))
-    (cases_eq k (4 * (k / 4) + 1)))
-    (cases_eq k (4 * (k / 4)))
+quarters k = grind arith
 
 cell_byte : (bs ds : List ℕ) → Fit bs → Fit ds → (k : ℕ) → cell_at bs (k / 4) ≡ cell_at ds (k / 4) → get_or bs k 0 ≡ get_or ds k 0
-cell_byte bs ds f g k e =
-    let q = quad_same bs ds f g (k / 4) e in
-    let P : ℕ → Type 0 = λ n. get_or bs n 0 ≡ get_or ds n 0 in
-    ⊎_elim (⊎_elim (λ h. subst P (sym h) q.0) (λ h. subst P (sym h) q.1))
-    (⊎_elim (λ h. subst P (sym h) q.2) (λ h. subst P (sym h) q.3)) (quarters k)
+cell_byte bs ds f g k e = grind (arith, quad_same, quarters)
 
 pub same_bytes : (bs ds : List ℕ) → Fit bs → Fit ds → length bs ≡ length ds → cells_of bs ≡ cells_of ds → spare bs ≡ spare ds → bs ≡ ds
 same_bytes bs ds f g l e s =
@@ -66,15 +48,7 @@ same_bytes bs ds f g l e s =
     (cases_lt k m))
 
 fit_set : (bs : List ℕ) (i a : ℕ) → a < 256 → Fit bs → Fit (set bs i a)
-fit_set bs i a h f k =
-    ⊎_elim
-    (λ (lt : i < length bs).
-    ⊎_elim
-    (λ (e : k ≡ i). record { fits = subst (λ (n : ℕ). get_or (set bs i a) n 0 < 256) (sym e) (rw get_or-set_same h) })
-    (λ (ne : k ≢ i). record { fits = rw get_or-set_other (fit_lt bs f k) })
-    (cases_eq k i))
-    (λ (ge : length bs ≤ i). subst (λ (xs : List ℕ). Fits w8 (get_or xs k 0)) (sym (set_past bs i a ge)) (f k))
-    (cases_lt i (length bs))
+fit_set bs i a h f k = grind (arith, get_or-set_same, get_or-set_other, set_past, fit_lt)
 
 fit_put : (bs : List ℕ) (i : ℕ) (v : ℤ) → Fit bs → Fit (put bs i v)
 fit_put bs i v f =

@@ -1,5 +1,5 @@
 -- Words in two halves, the cells and a copy. If they are odd in number, the last is in neither.
-use Rattle.std.specs.Prelude.{ℕ, ◌+◌, ◌/◌, List, length, take, drop, ℤ}
+use Rattle.std.specs.Prelude.{◌≡◌, ℕ, ◌+◌, ◌/◌, List, length, take, drop, ℤ}
 use Rattle.stores.specs.Beside.{Beside, nothing, a_number, some_bytes, some_words}
 
 abbrev pub half : List ℤ → ℕ
@@ -16,6 +16,12 @@ back ws = take (half ws) (drop (half ws) ws)
 -- an odd last word
 abbrev pub odd : List ℤ → List ℤ
 odd ws = drop (half ws + half ws) ws
+
+-- ws has these cells, this copy and this odd last word
+pub record HasHalves (ws cs bs os : List ℤ) : Type 0 where
+  pub cells : front ws ≡ cs
+  pub copy : back ws ≡ bs
+  pub last : odd ws ≡ os
 
 -- what lies beside the cells: the copy, where the words are, and an odd last word
 abbrev pub beside_half : ℕ → List ℤ → Beside

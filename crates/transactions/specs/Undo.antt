@@ -1,9 +1,15 @@
 -- An undo log: cells, with the values that stood there. The last one is put back first.
-use Rattle.std.specs.Prelude.{ℕ, zero, suc, List, ℤ, slice_set}
-use Rattle.transactions.specs.Changes.{change_at}
+use Rattle.std.specs.Prelude.{Option, None, Some, List, [], ◌∷◌, ℤ, slice_set}
+use Rattle.arrayvec.specs.ArrayVec.{ArrayVec, array_vec_len}
+use Rattle.stores.specs.Meaning.{Transaction, closed, opened}
 use Rattle.transactions.specs.declared.change.Change.{Change}
 
--- the cells before the first n entries of the log were made
-abbrev pub undone : ℕ → List Change → List ℤ → List ℤ
-undone zero log cs = cs
-undone (suc n) log cs = undone n log (slice_set cs (change_at log n).cell (change_at log n).value)
+-- the cells before the entries of the log were made
+abbrev pub undone : List Change → List ℤ → List ℤ
+undone [] cs = cs
+undone (x ∷ log) cs = slice_set (undone log cs) x.cell x.value
+
+-- the transaction that a log keeps, if there is a log
+abbrev pub logged : Option (ArrayVec Change) → List ℤ → Transaction
+logged None cs = closed
+logged (Some log) cs = opened (undone log.items cs) (array_vec_len log)

@@ -1,7 +1,8 @@
 //! Several writes that are made together or not at all.
 
-ghost use Rattle.std.specs.Prelude.{◌≡◌, ℕ, ◌+◌, ◌<◌, ◌≤◌, length, if◌then◌else◌};
+ghost use Rattle.std.specs.Prelude.{◌≡◌, ℕ, if◌then◌else◌};
 ghost use Rattle.stores.specs.Meaning.{Inside, Outside, RefusedBy, Refuses, is_open, opened};
+ghost use Rattle.stores.specs.Windows.{HasWindow, PassesEnd};
 ghost use Rattle.stores.specs.declared.fault.StoreFault.TheVariants.{NoWindow, TransactionOpen};
 ghost use Rattle.transactions.specs.Changes.{Applies, Attempts, Changes, ChangesShown};
 
@@ -12,6 +13,7 @@ use stores::store::{PlainStore, Store, TransactionalStore};
 use stores::window::{Window, window_fits};
 
 // Makes the changes up to the first that is refused, in a transaction that has just begun.
+#[tactic(auto, using(crate::proofs::Changing::changing))]
 fn write_each<S: TransactionalStore>(store: &mut S, changes: &[Change]) -> Result<(), StoreFault>
     requires { S.TransactionalStore.transaction store.old ≡ opened (S.Store.cells store.old) 0 }
     ensures cells { Attempts (S.Store.cells store.old) (S.Store.cells store.new) changes.now result }
@@ -56,8 +58,8 @@ pub fn apply_in_window<S: PlainStore>(
     count: usize,
     changes: &[Change],
 ) -> Result<(), StoreFault>
-    ensures fits { first + count ≤ length (S.Store.cells store.old) → ChangesShown first count (S.Store.cells store.old) (S.Store.cells store.new) changes.now result }
-    ensures passes { length (S.Store.cells store.old) < first + count → RefusedBy NoWindow result (S.Store.cells store.new ≡ S.Store.cells store.old) }
+    ensures fits { HasWindow first count (S.Store.cells store.old) → ChangesShown first count (S.Store.cells store.old) (S.Store.cells store.new) changes.now result }
+    ensures passes { PassesEnd first count (S.Store.cells store.old) → RefusedBy NoWindow result (S.Store.cells store.new ≡ S.Store.cells store.old) }
     ensures beside { S.Store.beside store.new ≡ S.Store.beside store.old }
 {
     window_fits(store, first, count)?;

@@ -1,11 +1,12 @@
 //! Transactions over any plain store, by an undo log.
 
-ghost use Rattle.std.specs.Prelude.{◌≡◌, ◌+◌, ◌<◌, ◌≤◌, false, length};
+ghost use Rattle.std.specs.Prelude.{◌≡◌, None, slice_set};
 ghost use Rattle.stores.specs.Beside.{a_number};
-ghost use Rattle.stores.specs.Meaning.{max_writes, transaction_of};
-ghost use Rattle.transactions.specs.Undo.{undone};
+ghost use Rattle.stores.specs.Lending.{IsLent};
+ghost use Rattle.transactions.specs.Undo.{logged};
 
 use crate::change::Change;
+use arrayvec::ArrayVec;
 use stores::fault::StoreFault;
 use stores::store::{MAX_WRITES, PlainStore, Store, TransactionalStore};
 
@@ -14,43 +15,29 @@ pub struct JournalToken {
     made: (),
 }
 
-/// A plain store with transactions: the log has the cell and the old value of each write.
+/// A plain store with transactions: while one is open, the log has the cell and the old value of each write.
 #[derive(Drop)]
 pub struct Journal<'a, S> {
     store: &'a mut S,
-    active: bool,
-    count: usize,
-    log: [Change; MAX_WRITES],
-    ghost few: { count ≤ max_writes },
-    ghost room: { length log ≡ max_writes },
+    log: Option<ArrayVec<Change, MAX_WRITES>>,
 }
 
 impl<'a, S: PlainStore> Journal<'a, S> {
     /// A journal over a lent store, with no transaction open.
     pub fn new(store: &'a mut S) -> Journal<'a, S>
-        ensures value { result.store.now ≡ store.old }
-        ensures named { result.store.ghost_name ≡ store.entry.ghost_name }
-        ensures idle { result.active ≡ false }
+        ensures lent { IsLent store.entry result.store }
+        ensures idle { result.log ≡ None }
     {
-        Journal {
-            store,
-            active: false,
-            count: 0,
-            log: [Change { cell: 0, value: 0 }; MAX_WRITES],
-        }
+        Journal { store, log: None }
     }
+}
 
-    // Puts the old value of entry `k` of the log back.
-    fn undo(&mut self, k: usize)
-        requires { k < max_writes }
-        ensures undone { undone k self.new.log (S.Store.cells self.new.store.now) ≡ undone (k + 1) self.old.log (S.Store.cells self.old.store.now) }
-        ensures length { length (S.Store.cells self.new.store.now) ≡ length (S.Store.cells self.old.store.now) }
-        ensures beside { S.Store.beside self.new.store.now ≡ S.Store.beside self.old.store.now }
-        ensures named { self.new.store.ghost_name ≡ self.old.store.ghost_name }
-    {
-        let old = self.log[k];
-        let _ = self.store.write(old.cell, old.value);
-    }
+// Puts an entry of a log back.
+fn put_back<S: PlainStore>(store: &mut S, entry: &Change)
+    ensures cells { S.Store.cells store.new ≡ slice_set (S.Store.cells store.old) entry.now.cell entry.now.value }
+    ensures beside { S.Store.beside store.new ≡ S.Store.beside store.old }
+{
+    let _ = store.write(entry.cell, entry.value);
 }
 
 impl<'a, S: PlainStore> Store for Journal<'a, S> {
@@ -70,58 +57,54 @@ impl<'a, S: PlainStore> Store for Journal<'a, S> {
 impl<'a, S: PlainStore> TransactionalStore for Journal<'a, S> {
     type Token = JournalToken;
 
-    ghost transaction = { λ j. transaction_of j.active (undone j.count j.log (S.Store.cells j.store.now)) j.count };
+    ghost transaction = { λ j. logged j.log (S.Store.cells j.store.now) };
 
     ghost begun = { λ _ b. b };
 
     fn is_open(&self) -> bool {
-        self.active
+        self.log.is_some()
     }
 
     fn begin(&mut self) -> Result<JournalToken, StoreFault> {
-        if self.active {
+        if self.log.is_some() {
             return Err(StoreFault::TransactionOpen);
         }
-        self.active = true;
-        self.count = 0;
+        self.log = Some(ArrayVec::new());
         Ok(JournalToken { made: () })
     }
 
+    #[tactic(auto, using(crate::proofs::Undoing::noting))]
     fn write(&mut self, i: usize, v: i32) -> Result<(), StoreFault> {
-        if !self.active {
+        let Some(log) = &mut self.log else {
             return self.store.write(i, v);
-        }
-        let old = self.store.read(i)?;
-        if self.count >= MAX_WRITES {
+        };
+        let value = self.store.read(i)?;
+        if log.is_full() {
             return Err(StoreFault::TransactionFull);
         }
-        self.store.write(i, v)?;
-        self.log[self.count] = Change {
-            cell: i,
-            value: old,
-        };
-        self.count += 1;
-        Ok(())
+        log.push(Change { cell: i, value });
+        self.store.write(i, v)
     }
 
     fn commit(&mut self, token: JournalToken) -> Result<(), StoreFault> {
         let JournalToken { made: _ } = token;
-        if !self.active {
+        if self.log.is_none() {
             return Err(StoreFault::NoTransaction);
         }
-        self.active = false;
+        self.log = None;
         Ok(())
     }
 
+    #[tactic(auto, using(crate::proofs::Undoing::undoing))]
     fn rollback(&mut self, token: JournalToken) -> Result<(), StoreFault> {
         let JournalToken { made: _ } = token;
-        if !self.active {
+        let Some(log) = &self.log else {
             return Err(StoreFault::NoTransaction);
+        };
+        for entry in log.iter().rev() {
+            put_back(self.store, entry);
         }
-        for k in (0..self.count).rev() {
-            self.undo(k);
-        }
-        self.active = false;
+        self.log = None;
         Ok(())
     }
 }
