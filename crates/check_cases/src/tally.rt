@@ -1,5 +1,5 @@
-// How many cases there are of each number, and how many were answered otherwise.
-use crate::case::Outcome;
+//! How many cases there are of each number, and how many were answered otherwise.
+use crate::answer::Answer;
 use std::io;
 
 #[derive(Clone, Copy)]
@@ -17,10 +17,9 @@ impl Tally {
         }
     }
 
-    pub(crate) fn count(&mut self, expected: Outcome, answer: Outcome) {
-        let number = expected.number.unsigned_abs() as usize;
-        if number < 10 {
-            self.cases[number] = self.cases[number].saturating_add(1);
+    pub(crate) fn count(&mut self, expected: Answer, answer: Answer) {
+        if let Some(cases) = self.cases.get_mut(usize::from(expected.number())) {
+            *cases = cases.saturating_add(1);
         }
         if answer != expected {
             self.wrong = self.wrong.saturating_add(1);

@@ -1,5 +1,5 @@
 -- What the check answers.
-use Rattle.std.specs.Prelude.{◌≡◌, ℕ, ◌<◌, ◌≤◌, true, cond, List, length, ℤ, is_ok, Some, None, Ok, Err, Option, Result, slice_index}
+use Rattle.std.specs.Prelude.{◌≡◌, ℕ, ◌<◌, ◌≤◌, true, cond, List, length, ℤ, is_ok, Ok, Err, Result, slice_index}
 use Rattle.tables.specs.declared.rule.Rule.{Rule}
 use Rattle.tables.specs.declared.layout.Layout.{Layout}
 use Rattle.tables.specs.Layouts.{LaidOut}
@@ -7,6 +7,7 @@ use Rattle.tables.specs.Rows.{Rows}
 use Rattle.tables.specs.Words.{rows_of, Sized}
 use Rattle.tables.specs.Cells.{communicates}
 use Rattle.tables.specs.Rules.{Obeys, First, GoodBelow}
+use Rattle.checking.specs.declared.fault.Broken.{Broken}
 use Rattle.checking.specs.declared.fault.CheckFault.{CheckFault}
 use Rattle.checking.specs.declared.fault.CheckFault.TheVariants.{Sizes, Notes, Row}
 
@@ -58,6 +59,6 @@ pub record Noted (m : Rows) (n : ℕ) (before after : List ℕ) : Type 0 where
   pub stays : (k : ℕ) → n ≤ k → slice_index after k ≡ slice_index before k
 
 -- all rows are good; or this is the first that is not, with the first rule that it breaks
-abbrev pub JudgedRows : Rows → List ℕ → List ℕ → Layout → Option (ℕ × Rule) → Type 0
-JudgedRows m before after l None = GoodBelow m m.total × LaidOut m m.total l × Noted m m.total before after
-JudgedRows m before after l (Some p) = FirstBroken m p.0 p.1 × Noted m p.0 before after
+abbrev pub JudgedRows : Rows → List ℕ → List ℕ → Layout → Result (Unit {0}) Broken → Type 0
+JudgedRows m before after l (Ok x) = GoodBelow m m.total × LaidOut m m.total l × Noted m m.total before after
+JudgedRows m before after l (Err b) = FirstBroken m b.row b.rule × Noted m b.row before after

@@ -1,38 +1,34 @@
-// Why words are no model.
+//! Why words are no model.
 ghost use Rattle.std.specs.Prelude.{◌≡◌};
+ghost use Rattle.checking.specs.declared.fault.CheckFault.TheVariants.{Sizes, Row};
 ghost use Rattle.checking.specs.Faults.{number, row_told, or_minus_one};
 
 use tables::rule::Rule;
+use tables::table::WrongSizes;
 
 #[derive(Clone, Copy, PartialEq, Eq, Debug)]
 pub enum CheckFault {
-    // the sizes are wrong, or the words are not as many as they say
+    /// the sizes are wrong, or the words are not as many as they say
     Sizes,
-    // there are fewer notes than rows
+    /// there are fewer notes than rows
     Notes,
-    // a row at fault, with no fault before it, and the first of the rules that it breaks
+    /// a row at fault, with no fault before it, and the first of the rules that it breaks
     Row(usize, Rule),
 }
 
 impl CheckFault {
-    // The number that the fault is known by.
+    /// The number that the fault is known by.
     pub fn number(self) -> u8
         ensures { result ≡ number self }
     {
         match self {
             CheckFault::Sizes => 1,
             CheckFault::Notes => 2,
-            CheckFault::Row(_, Rule::Shape) => 3,
-            CheckFault::Row(_, Rule::Naming) => 4,
-            CheckFault::Row(_, Rule::Extent) => 5,
-            CheckFault::Row(_, Rule::Typing) => 6,
-            CheckFault::Row(_, Rule::Statement) => 7,
-            CheckFault::Row(_, Rule::Communication) => 8,
-            CheckFault::Row(_, Rule::Chain) => 9,
+            CheckFault::Row(_, rule) => rule as u8,
         }
     }
 
-    // The row that the fault tells, if it tells one.
+    /// The row that the fault tells, if it tells one.
     pub fn row(self) -> Option<usize>
         ensures { or_minus_one result ≡ row_told self }
     {
@@ -40,5 +36,28 @@ impl CheckFault {
             CheckFault::Sizes | CheckFault::Notes => None,
             CheckFault::Row(row, _) => Some(row),
         }
+    }
+}
+
+impl From<WrongSizes> for CheckFault {
+    ghost from_gives = { λ _ f. f ≡ Sizes };
+
+    fn from(_sizes: WrongSizes) -> CheckFault {
+        CheckFault::Sizes
+    }
+}
+
+// The first row that breaks a rule, and the first rule that it breaks.
+#[derive(Clone, Copy)]
+pub(crate) struct Broken {
+    pub(crate) row: usize,
+    pub(crate) rule: Rule,
+}
+
+impl From<Broken> for CheckFault {
+    ghost from_gives = { λ b f. f ≡ Row b.row b.rule };
+
+    fn from(broken: Broken) -> CheckFault {
+        CheckFault::Row(broken.row, broken.rule)
     }
 }

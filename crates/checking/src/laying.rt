@@ -1,25 +1,25 @@
-// Entering a good row's cells into the layout.
-ghost use Rattle.std.specs.Prelude.{◌+◌, ◌<◌, ◌≤◌};
+//! Entering a good row's cells into the layout.
+ghost use Rattle.std.specs.Prelude.{◌+◌, ◌≤◌};
 ghost use Rattle.tables.specs.Layouts.{LaidOut};
-ghost use Rattle.tables.specs.Views.{table_rows};
+ghost use Rattle.tables.specs.Views.{row_rows};
 ghost use Rattle.checking.specs.Found.{Brings};
 
 use tables::layout::Layout;
+use tables::row::Row;
 use tables::section::Section;
-use tables::table::Table;
 
-pub(crate) fn lay(table: Table<'_>, layout: &mut Layout, r: usize, cells: usize)
-    requires inside { r < (table_rows table).total }
-    requires laid { LaidOut (table_rows table) r layout.old }
+pub(crate) fn lay(layout: &mut Layout, row: Row<'_>, cells: usize)
+    requires laid { LaidOut (row_rows row) row.number layout.old }
     requires small { layout.old.cells ≤ 4096 }
-    requires brings { Brings (table_rows table) r cells }
-    ensures laid { LaidOut (table_rows table.entry) (r + 1) layout.new }
+    requires brings { Brings (row_rows row) row.number cells }
+    ensures laid { LaidOut (row_rows row.entry) (row.entry.number + 1) layout.new }
     ensures small { layout.new.cells ≤ 4096 }
 {
-    match table.section(r) {
-        Section::Types => layout.sizes[r] = cells as u16,
+    match row.section() {
+        // Both numbers are 4096 at most, and no `From` leads to a smaller type.
+        Section::Types => layout.sizes[row.number] = cells as u16,
         Section::Variables => {
-            layout.firsts[r - table.types()] = layout.cells as u16;
+            layout.firsts[row.number - row.table.ends.types] = layout.cells as u16;
             layout.cells += cells;
         }
         Section::Ports | Section::Expressions | Section::Statements | Section::States => {}

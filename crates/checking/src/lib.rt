@@ -1,4 +1,4 @@
-// The check of a model's tables.
+//! The check of a model's tables.
 #![tactic(auto)]
 
 ghost use Rattle.std.specs.Prelude.{◌≡◌, true, false, length, is_ok};
@@ -13,13 +13,12 @@ mod rows;
 pub mod worked;
 
 use fault::CheckFault;
-use rows::first_broken;
+use rows::judge_rows;
 use tables::layout::Layout;
 use tables::model::Model;
-use tables::sizes::sections;
 use tables::table::Table;
 
-// Fills the slot if the rows keep every rule, and notes which of them communicate.
+/// Fills the slot if the rows keep every rule, and notes which of them communicate.
 pub fn check<'a>(words: &'a [i32], notes: &mut [u8], slot: &mut Model<'a>) -> Result<(), CheckFault>
     ensures verdict { Verdict words.now (length notes.old) result }
     ensures exactly { Exactly words.now (length notes.old) result }
@@ -36,19 +35,12 @@ fn judge_all<'a>(words: &'a [i32], notes: &mut [u8], slot: &mut Model<'a>) -> Re
     ensures accepted { is_ok result ≡ true → slot.new.table.words ≡ words.entry }
     ensures refused { is_ok result ≡ false → slot.new ≡ slot.old }
 {
-    let Some(ends) = sections(words) else {
-        return Err(CheckFault::Sizes);
-    };
-    if notes.len() < ends.total {
+    let table = Table::try_from(words)?;
+    if notes.len() < table.rows() {
         return Err(CheckFault::Notes);
     }
-    let table = Table::of(words, ends);
     let mut layout = Layout::empty();
-    match first_broken(table, notes, &mut layout) {
-        None => {
-            *slot = Model::of(table, layout);
-            Ok(())
-        }
-        Some(first) => Err(CheckFault::Row(first.0, first.1)),
-    }
+    judge_rows(table, notes, &mut layout)?;
+    *slot = Model::of(table, layout);
+    Ok(())
 }

@@ -1,43 +1,37 @@
-// Judging all rows, upward.
-ghost use Rattle.std.specs.Prelude.{◌≡◌, ◌≤◌, length, if◌then◌else◌};
+//! Judging all rows, upward.
+ghost use Rattle.std.specs.Prelude.{◌≤◌, length};
 ghost use Rattle.tables.specs.Layouts.{Empty};
 ghost use Rattle.tables.specs.Views.{table_rows};
 ghost use Rattle.checking.specs.Verdict.{JudgedRows};
 
+use crate::fault::Broken;
 use crate::judge::judge_row;
 use crate::laying::lay;
 use tables::layout::Layout;
-use tables::rule::Rule;
+use tables::row::Row;
 use tables::table::Table;
 
-fn note(communicates: bool) -> u8
-    ensures { result ≡ (if communicates then 1 else 0) }
-{
-    if communicates { 1 } else { 0 }
-}
-
-// The first row at fault, with the first of the rules that it breaks. The rows before it are noted and laid out.
-pub(crate) fn first_broken(
+// Judges the rows up to the first that breaks a rule. The good ones are noted and laid out.
+pub(crate) fn judge_rows(
     table: Table<'_>,
     notes: &mut [u8],
     layout: &mut Layout,
-) -> Option<(usize, Rule)>
+) -> Result<(), Broken>
     requires enough { (table_rows table).total ≤ length notes.old }
     requires empty { Empty layout.old }
     ensures { JudgedRows (table_rows table.entry) notes.old notes.new layout.new result }
 {
-    let mut r = 0;
-    loop {
-        if r == table.rows() {
-            break None;
-        }
-        match judge_row(table, notes, layout, r) {
-            Ok(judged) => {
-                notes[r] = note(judged.communicates);
-                lay(table, layout, r, judged.cells);
+    'judging: {
+        for number in 0..table.rows() {
+            let row = Row { table, number };
+            match judge_row(row, notes, layout) {
+                Ok(judged) => {
+                    notes[number] = u8::from(judged.communicates);
+                    lay(layout, row, judged.cells);
+                }
+                Err(rule) => break 'judging Err(Broken { row: number, rule }),
             }
-            Err(rule) => break Some((r, rule)),
         }
-        r += 1;
+        Ok(())
     }
 }

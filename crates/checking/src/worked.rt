@@ -1,4 +1,4 @@
-// Worked cases of the check: each is shown of the rules, and then run.
+//! Worked cases of the check: each is shown of the rules, and then run.
 ghost use Rattle.std.specs.Prelude.{◌≡◌, ◌≤◌, true};
 ghost use Rattle.tables.specs.Words.{rows_of};
 ghost use Rattle.checking.specs.Verdict.{WellFormed, Faulty, Verdict};
@@ -36,7 +36,7 @@ fn refuses(words: &[i32], fault: CheckFault) -> bool
     }
 }
 
-// Runs the check on the worked cases: is each accepted or refused as it should be?
+/// Runs the check on the worked cases: is each accepted or refused as it should be?
 pub fn worked_cases() -> bool
     ensures cases { CasesOfTheCheck }
     ensures answers { result ≡ true }

@@ -1,5 +1,5 @@
 -- Chains, from row to row.
-use Rattle.std.proofs.Common.{◌≡◌, ℕ, ◌-◌, ◌<◌, ◌≤◌, true, false, ◌∷◌, length, ℤ, Some, None, Option, refl, ap, ◌∙◌, arith}
+use Rattle.std.proofs.Common.{◌≡◌, ℕ, ◌-◌, ◌<◌, ◌≤◌, ◌∷◌, length, ℤ, Some, None, Option, refl, arith}
 use Rattle.std.proofs.lemmas.Int.{ints}
 use Rattle.tables.specs.declared.form.StmtForm.{StmtForm}
 use Rattle.tables.specs.declared.form.StmtForm.TheVariants.{Null, On, Assign, Further, Any, While, If, Sequence, Select, To, Loop, Synchronise, Send, Receive}
@@ -12,33 +12,27 @@ use Rattle.tables.specs.Rules.{Good, IsAssignment, Assigns, Apart, WithEach, Pai
 use Rattle.tables.proofs.CellLaws.{targets_one, targets_more}
 use Rattle.tables.proofs.FormLaws.{is_form}
 use Rattle.tables.proofs.SortLaws.{at_form}
-use Rattle.judging.specs.Chains.{Links}
+use Rattle.judging.specs.declared.chain.Chain.{Chain}
+use Rattle.judging.specs.Chains.{Links, chain_rows}
 
-pub link_last : (m : Rows) (q : ℕ) (f : StmtForm) (place : ℕ) (v : ℤ) → Good m q → form_at m q ≡ Some (StmtRow f) → f ≡ Assign place v → Links m q (record { place = place; more = false })
-link_last m q f place v g e i =
-    let is : form_at m q ≡ Some (StmtRow (Assign place v)) = e ∙ ap (λ x. Some (StmtRow x)) i in
-    let names = (at_form m q (StmtRow (Assign place v)) g is).1 in
-    let one = targets_one m q place v is in
+-- what a link of a chain tells, from its statement
+pub link_last : (c : Chain) (place : ℕ) (v : ℤ) → Good (chain_rows c) c.last.row.number → form_at (chain_rows c) c.last.row.number ≡ Some (StmtRow (Assign place v)) → Links c (record { place = place; rest = None })
+link_last c place v g e =
+    let one = targets_one (chain_rows c) c.last.row.number place v e in
     record {
-      place = names.0;
+      place = (at_form (chain_rows c) c.last.row.number (StmtRow (Assign place v)) g e).1.0;
       few = rw one (omega arith);
-      last = λ no. one;
-      rest = λ yes. (let z : ◌≡◌ {A = ℕ} 0 1 = cc in absurd (omega arith));
-      goes_on = λ yes. (let z : ◌≡◌ {A = ℕ} 0 1 = cc in absurd (omega arith));
+      rest = one;
     }
 
-pub link_more : (m : Rows) (q : ℕ) (f : StmtForm) (place : ℕ) (v : ℤ) → Good m q → form_at m q ≡ Some (StmtRow f) → f ≡ Further place v → Links m q (record { place = place; more = true })
-link_more m q f place v g e i =
-    let is : form_at m q ≡ Some (StmtRow (Further place v)) = e ∙ ap (λ x. Some (StmtRow x)) i in
-    let all = at_form m q (StmtRow (Further place v)) g is in
-    let names = all.1 in
-    let more = targets_more m q place v is (omega (arith, ints)) in
+pub link_more : (c d : Chain) (place : ℕ) (v : ℤ) → Good (chain_rows c) c.last.row.number → form_at (chain_rows c) c.last.row.number ≡ Some (StmtRow (Further place v)) → d.last.row.table ≡ c.last.row.table → d.last.row.number ≡ c.last.row.number - 1 → Links c (record { place = place; rest = Some d })
+link_more c d place v g e t n =
+    let all = at_form (chain_rows c) c.last.row.number (StmtRow (Further place v)) g e in
+    let more = targets_more (chain_rows c) c.last.row.number place v e (omega (arith, ints)) in
     record {
-      place = names.0;
+      place = all.1.0;
       few = all.6.0;
-      last = λ no. (let z : ◌≡◌ {A = ℕ} 0 1 = cc in absurd (omega arith));
-      rest = λ yes. more;
-      goes_on = λ yes. (omega (arith, ints), names.3);
+      rest = record { targets = more; later = omega (arith, ints); table = t; number = n };
     }
 
 -- the targets of a good assignment are apart

@@ -1,6 +1,6 @@
 -- The cells that a row brings, from its form.
 use Rattle.std.proofs.Common.{◌≡◌, ℕ, ◌+◌, ◌*◌, ◌<◌, ◌≤◌, ◌⊎◌, ℤ, sym, ap, ◌∙◌, inl, inr, arith}
-use Rattle.std.proofs.lemmas.Int.{ints}
+use Rattle.std.proofs.lemmas.Int.{ints, to_z-of_z}
 use Rattle.tables.specs.declared.form.TypeForm.{TypeForm}
 use Rattle.tables.specs.declared.form.TypeForm.TheVariants as type
 use Rattle.tables.specs.declared.form.Form.TheVariants.{TypeRow, VariableRow}
@@ -10,6 +10,7 @@ use Rattle.tables.specs.Types.{Scalar}
 use Rattle.tables.specs.Cells.{cells, taken, taken_by}
 use Rattle.tables.proofs.FormLaws.{is_form}
 use Rattle.tables.proofs.CellLaws.{type_at_lem, cells_array, cells_scalar, taken_more}
+use Rattle.tables.proofs.SortLaws.{type_row, port_names}
 use Rattle.judging.specs.Judging.{Keeps}
 
 pub array_cells : (m : Rows) (r length : ℕ) (element : ℤ) (n : ℕ) → Is m r (TypeRow (type.Array length element)) → Between 0 r element → n ≡ cells m (whole element) → length * n ≡ cells m r
@@ -32,3 +33,12 @@ pub plain_type : (m : Rows) (r : ℕ) (f : TypeForm) → (f ≡ type.Bool) ⊎ (
 plain_type m r f (inl e) i = plain m r f type.Bool e tt (λ j. (j, tt, tt, tt, tt, tt, tt)) i
 plain_type m r f (inr (inl e)) i = plain m r f type.Nat e tt (λ j. (j, tt, tt, tt, tt, tt, tt)) i
 plain_type m r f (inr (inr e)) i = plain m r f type.Int e tt (λ j. (j, tt, tt, tt, tt, tt, tt)) i
+
+-- from a row's form to its cells
+pub ruleset layouts = (array_cells, scalar_cells, variable_cells, plain_type, to_z-of_z)
+
+-- from a named type to its cells
+pub ruleset named_types = (type_row, ints, to_z-of_z)
+
+-- from a port to the type that it names
+pub ruleset ports = (port_names, to_z-of_z)

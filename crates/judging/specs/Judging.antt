@@ -1,13 +1,13 @@
 -- What judging a row answers.
-use Rattle.std.specs.Prelude.{◌≡◌, ℕ, ◌%◌, ◌<◌, ◌≤◌, Bool, List, length, ℤ, Ok, Err, Result, MatchResult, ◌==◌, slice_index}
+use Rattle.std.specs.Prelude.{◌≡◌, ℕ, ◌%◌, ◌<◌, ◌≤◌, List, length, ℤ, Result, MatchResult, ◌==◌, slice_index}
+use denote.Struct.Props.{props}
 use Rattle.tables.specs.declared.rule.Rule.{Rule}
 use Rattle.tables.specs.declared.rule.Rule.TheVariants.{Naming}
 use Rattle.tables.specs.declared.form.Form.{Form}
 use Rattle.tables.specs.declared.form.Sort.{Sort}
 use Rattle.tables.specs.Rows.{Rows}
 use Rattle.tables.specs.Cells.{communicates}
-use Rattle.tables.specs.Forms.{Is}
-use Rattle.tables.specs.Rules.{Asks, All, First, Refers, GoodBelow}
+use Rattle.tables.specs.Rules.{Asks, All, First, Refers}
 
 -- row r keeps all rules as the form f; or this is the first that it breaks
 abbrev pub Keeps : Rows → ℕ → Form → Type 0
@@ -24,12 +24,6 @@ Judges m r f Finds o = MatchResult o (λ a. Keeps m r f × Finds a) (Breaks m r 
 abbrev pub Named : {A : Type 0} → Rows → ℕ → Sort → ℤ → (A → Type 0) → Result A Rule → Type 0
 Named m r s z Finds o = MatchResult o (λ a. Refers m r s z × Finds a) (λ e. (e ≡ Naming) × (Refers m r s z → ⊥))
 
--- what is known of row r when it is judged: the rows before it are good, and it is the form f
-pub record Due (m : Rows) (r : ℕ) (f : Form) : Type 0 where
-  pub inside : r < m.total
-  pub good : GoodBelow m r
-  pub is : Is m r f
-
 -- nothing more is found
 abbrev pub Nothing : Unit {0} → Type 0
 Nothing x = Unit {0}
@@ -38,7 +32,5 @@ Nothing x = Unit {0}
 abbrev pub NotedBelow : Rows → ℕ → List ℕ → Type 0
 NotedBelow m r notes = (r ≤ length notes) × ((q : ℕ) → q < r → (slice_index notes q % 2 == 1) ≡ communicates m q)
 
--- a verdict that also tells b of a good row
-abbrev pub answered : Bool → Result (Unit {0}) Rule → Result Bool Rule
-answered b (Ok x) = Ok b
-answered b (Err n) = Err n
+pub noted_below_prop : (m : Rows) (r : ℕ) (notes : List ℕ) → IsProp (NotedBelow m r notes)
+noted_below_prop m r notes = hlevel props

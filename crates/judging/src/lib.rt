@@ -1,10 +1,9 @@
-// Judging rows by their forms: which rule a row breaks first, if it breaks one.
+//! Judging rows by their forms: which rule a row breaks first, if it breaks one.
 #![tactic(auto)]
 
-mod chains;
-pub mod exprs;
-mod link;
+pub mod candidate;
+mod chain;
+mod exprs;
 mod naming;
-pub mod stmts;
-pub mod types;
-mod typing;
+mod stmts;
+mod types;

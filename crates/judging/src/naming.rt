@@ -1,49 +1,28 @@
-// The rows that a row names.
-ghost use Rattle.std.specs.Prelude.{◌≡◌, ◌<◌, pos, Decides};
-ghost use Rattle.tables.specs.Rows.{whole};
-ghost use Rattle.tables.specs.Forms.{SortAt};
-ghost use Rattle.tables.specs.Views.{table_rows};
-ghost use Rattle.judging.specs.Judging.{Named};
+//! Numbers that name rows.
+ghost use Rattle.std.specs.Prelude.{◌≡◌, ℤ, pos, MatchOption};
+ghost use Rattle.tables.specs.Rows.{whole, Between};
 
-use tables::form::Sort;
-use tables::rule::Rule;
-use tables::table::Table;
+// A field that names a row: an arg, which may be negative, or a tail.
+pub(crate) trait RowNumber {
+    ghost number: { Self → ℤ };
 
-// Whether row `q` is of the sort.
-fn is_sort(table: Table<'_>, q: usize, sort: Sort) -> bool
-    requires { q < (table_rows table).total }
-    ensures { Decides result (SortAt (table_rows table.entry) q sort) }
-{
-    match table.form(q) {
-        Some(form) => form.sort() == sort,
-        None => false,
+    // The row that is named, if it comes before row `r`.
+    fn before(self, r: usize) -> Option<usize>
+        ensures { MatchOption result (Between 0 r (number self) → ⊥) (λ q. Between 0 r (number self) × (q ≡ whole (number self))) };
+}
+
+impl RowNumber for i32 {
+    ghost number = { λ z. z };
+
+    fn before(self, r: usize) -> Option<usize> {
+        usize::try_from(self).ok()?.before(r)
     }
 }
 
-// The smaller row of the sort that `z` names.
-pub(crate) fn named(table: Table<'_>, r: usize, z: i32, sort: Sort) -> Result<usize, Rule>
-    requires { r < (table_rows table).total }
-    ensures { Named (table_rows table.entry) r sort z (λ q. q ≡ whole z) result }
-{
-    if z < 0 {
-        return Err(Rule::Naming);
-    }
-    let q = z as usize;
-    if q < r && is_sort(table, q, sort) {
-        Ok(q)
-    } else {
-        Err(Rule::Naming)
-    }
-}
+impl RowNumber for usize {
+    ghost number = { λ q. pos q };
 
-// The same of a number that has no sign.
-pub(crate) fn named_row(table: Table<'_>, r: usize, q: usize, sort: Sort) -> Result<usize, Rule>
-    requires { r < (table_rows table).total }
-    ensures { Named (table_rows table.entry) r sort (pos q) (λ p. p ≡ q) result }
-{
-    if q < r && is_sort(table, q, sort) {
-        Ok(q)
-    } else {
-        Err(Rule::Naming)
+    fn before(self, r: usize) -> Option<usize> {
+        if self < r { Some(self) } else { None }
     }
 }

@@ -1,4 +1,4 @@
-// What the program is asked to do.
+//! What the program is asked to do.
 
 pub const USAGE: &str = "usage: lane show MODEL             print the tables of a model, row by row
        lane check [--notes] MODEL  say whether a model is good and, if not, why

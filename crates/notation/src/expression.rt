@@ -1,13 +1,14 @@
-// Expressions and places in Fiacre's notation.
+//! Expressions and places in Fiacre's notation.
 use crate::name::Name;
+use crate::printer::Printer;
 use crate::sheet::Sheet;
 use std::alloc::AllocError;
-use tables::form::{BinaryOp, ExprForm, Form, Sort, TypeForm, UnaryOp};
+use tables::form::{ExprForm, Form, Sort, TypeForm};
 
-// How deep an expression is printed: an operand that lies deeper is named by its row.
+/// How deep an expression is printed: an operand that lies deeper is named by its row.
 pub const MAX_DEPTH: usize = 6;
 
-// A row that an expression is made of.
+/// A row that an expression is made of.
 #[derive(Clone, Copy)]
 pub struct Operand {
     name: Name,
@@ -17,67 +18,25 @@ pub struct Operand {
 }
 
 impl Operand {
-    pub(crate) fn value(name: Name) -> Operand {
+    pub(crate) fn new(sort: Sort, name: impl Into<Name>) -> Operand {
         Operand {
-            name,
-            sort: Sort::Value,
+            name: name.into(),
+            sort,
             bound: false,
         }
     }
 
-    pub(crate) fn place(name: Name) -> Operand {
+    // A value under an operator.
+    fn bound(name: impl Into<Name>) -> Operand {
         Operand {
-            name,
-            sort: Sort::Place,
-            bound: false,
-        }
-    }
-
-    fn pair(name: Name) -> Operand {
-        Operand {
-            name,
-            sort: Sort::Pair,
-            bound: false,
-        }
-    }
-
-    fn bound(name: Name) -> Operand {
-        Operand {
-            name,
-            sort: Sort::Value,
             bound: true,
+            ..Operand::new(Sort::Value, name)
         }
     }
 }
 
 fn is_operator(form: ExprForm) -> bool {
     matches!(form, ExprForm::Unary { .. } | ExprForm::Binary { .. })
-}
-
-fn unary_symbol(op: UnaryOp) -> &'static str {
-    match op {
-        UnaryOp::Not => "not ",
-        UnaryOp::Minus => "-",
-        UnaryOp::Coerce => "$",
-    }
-}
-
-fn binary_symbol(op: BinaryOp) -> &'static str {
-    match op {
-        BinaryOp::And => "and",
-        BinaryOp::Or => "or",
-        BinaryOp::Add => "+",
-        BinaryOp::Sub => "-",
-        BinaryOp::Mul => "*",
-        BinaryOp::Div => "/",
-        BinaryOp::Rem => "%",
-        BinaryOp::Equal => "=",
-        BinaryOp::Unequal => "<>",
-        BinaryOp::Less => "<",
-        BinaryOp::AtMost => "<=",
-        BinaryOp::Greater => ">",
-        BinaryOp::AtLeast => ">=",
-    }
 }
 
 impl Sheet<'_> {
@@ -88,89 +47,83 @@ impl Sheet<'_> {
             _ => None,
         }
     }
+}
 
+impl Printer<'_, '_> {
     #[cycle(expression_operand)]
     pub(crate) fn operand(
-        self,
-        out: &mut String,
+        &mut self,
         reader: usize,
         operand: Operand,
         depth: usize,
     ) -> Result<(), AllocError> {
         let name = operand.name;
-        match self.sought(reader, operand) {
+        match self.sheet.sought(reader, operand) {
             Some((row, form)) if depth > 0 => {
                 let parenthesised = operand.bound && is_operator(form);
                 if parenthesised {
-                    write!(out, "(")?;
+                    write!(self.out, "(")?;
                 }
-                self.expression(out, row, form, depth - 1)?;
+                self.expression(row, form, depth - 1)?;
                 if parenthesised {
-                    write!(out, ")")?;
+                    write!(self.out, ")")?;
                 }
                 Ok(())
             }
-            _ => write!(out, "{name}"),
+            _ => write!(self.out, "{name}"),
         }
     }
 
     #[cycle(expression_operand)]
     pub(crate) fn expression(
-        self,
-        out: &mut String,
+        &mut self,
         row: usize,
         form: ExprForm,
         depth: usize,
     ) -> Result<(), AllocError> {
         let second = Name::before(row);
         match form {
-            ExprForm::Literal { of, value } => self.literal(out, row, of, value),
-            ExprForm::Variable { variable, .. } => self.variable(out, Name::Arg(variable)),
+            ExprForm::Literal { of, value } => self.literal(row, of, value),
+            ExprForm::Variable { variable, .. } => self.variable(variable),
             ExprForm::Read { place, .. } => {
-                self.operand(out, row, Operand::place(Name::Arg(place)), depth)
+                self.operand(row, Operand::new(Sort::Place, place), depth)
             }
             ExprForm::Unary { op, operand, .. } => {
-                write!(out, "{}", unary_symbol(op))?;
-                self.operand(out, row, Operand::bound(Name::Arg(operand)), depth)
+                write!(self.out, "{op}")?;
+                self.operand(row, Operand::bound(operand), depth)
             }
             ExprForm::Binary { op, left, .. } => {
-                self.operand(out, row, Operand::bound(Name::Arg(left)), depth)?;
-                write!(out, " {} ", binary_symbol(op))?;
-                self.operand(out, row, Operand::bound(second), depth)
+                self.operand(row, Operand::bound(left), depth)?;
+                write!(self.out, " {op} ")?;
+                self.operand(row, Operand::bound(second), depth)
             }
             ExprForm::Conditional { condition, .. } => {
-                write!(out, "(")?;
-                self.operand(out, row, Operand::value(Name::Arg(condition)), depth)?;
-                write!(out, " ? ")?;
-                self.operand(out, row, Operand::pair(second), depth)?;
-                write!(out, ")")
+                write!(self.out, "(")?;
+                self.operand(row, Operand::new(Sort::Value, condition), depth)?;
+                write!(self.out, " ? ")?;
+                self.operand(row, Operand::new(Sort::Pair, second), depth)?;
+                write!(self.out, ")")
             }
             ExprForm::Pair { if_true } => {
-                self.operand(out, row, Operand::value(Name::Arg(if_true)), depth)?;
-                write!(out, " : ")?;
-                self.operand(out, row, Operand::value(second), depth)
+                self.operand(row, Operand::new(Sort::Value, if_true), depth)?;
+                write!(self.out, " : ")?;
+                self.operand(row, Operand::new(Sort::Value, second), depth)
             }
             ExprForm::Element { base, .. } => {
-                self.operand(out, row, Operand::place(Name::Arg(base)), depth)?;
-                write!(out, "[")?;
-                self.operand(out, row, Operand::value(second), depth)?;
-                write!(out, "]")
+                self.operand(row, Operand::new(Sort::Place, base), depth)?;
+                write!(self.out, "[")?;
+                self.operand(row, Operand::new(Sort::Value, second), depth)?;
+                write!(self.out, "]")
             }
         }
     }
 
     // A number, or the name of a truth value.
-    fn literal(
-        self,
-        out: &mut String,
-        row: usize,
-        of: usize,
-        value: i32,
-    ) -> Result<(), AllocError> {
-        match (self.earlier(row, Name::Row(of)), value) {
-            (Some((_, Form::TypeRow(TypeForm::Bool))), 0) => write!(out, "false"),
-            (Some((_, Form::TypeRow(TypeForm::Bool))), 1) => write!(out, "true"),
-            _ => write!(out, "{value}"),
+    fn literal(&mut self, row: usize, of: usize, value: i32) -> Result<(), AllocError> {
+        match (self.sheet.earlier(row, of), value) {
+            (Some((_, Form::TypeRow(TypeForm::Bool))), 0) => write!(self.out, "false"),
+            (Some((_, Form::TypeRow(TypeForm::Bool))), 1) => write!(self.out, "true"),
+            _ => write!(self.out, "{value}"),
         }
     }
 }

@@ -1,7 +1,7 @@
-// How rows are named where they are not printed.
+//! How rows are named where they are not printed.
 use std::fmt;
 
-// A row as a field names it: there need be no such row.
+/// A row as a field names it: there need be no such row.
 #[derive(Clone, Copy)]
 pub enum Name {
     Arg(i32),
@@ -11,19 +11,26 @@ pub enum Name {
 impl Name {
     // The row before `row`.
     pub(crate) fn before(row: usize) -> Name {
-        if row == 0 {
-            Name::Arg(-1)
-        } else {
-            Name::Row(row - 1)
-        }
+        row.checked_sub(1).map_or(Name::Arg(-1), Name::Row)
     }
 
     pub(crate) fn row(self) -> Option<usize> {
         match self {
-            Name::Arg(arg) if arg < 0 => None,
-            Name::Arg(arg) => Some(arg as usize),
+            Name::Arg(arg) => usize::try_from(arg).ok(),
             Name::Row(row) => Some(row),
         }
+    }
+}
+
+impl From<i32> for Name {
+    fn from(arg: i32) -> Name {
+        Name::Arg(arg)
+    }
+}
+
+impl From<usize> for Name {
+    fn from(row: usize) -> Name {
+        Name::Row(row)
     }
 }
 

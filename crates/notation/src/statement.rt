@@ -1,112 +1,73 @@
-// Statements and states in Fiacre's notation. The parts of a statement that are statements are named by their rows.
+//! Statements and states in Fiacre's notation. The parts of a statement that are statements are named by their rows.
 use crate::expression::{MAX_DEPTH, Operand};
 use crate::name::Name;
-use crate::sheet::Sheet;
+use crate::printer::Printer;
 use std::alloc::AllocError;
-use tables::form::StmtForm;
+use tables::form::{Sort, StmtForm};
 
-impl Sheet<'_> {
-    fn value(self, out: &mut String, reader: usize, name: Name) -> Result<(), AllocError> {
-        self.operand(out, reader, Operand::value(name), MAX_DEPTH)
-    }
+// The statement of a state that has no transition.
+const NO_STATEMENT: i32 = -1;
 
-    fn place(self, out: &mut String, reader: usize, name: Name) -> Result<(), AllocError> {
-        self.operand(out, reader, Operand::place(name), MAX_DEPTH)
-    }
-
-    pub(crate) fn statement(
-        self,
-        out: &mut String,
-        row: usize,
-        form: StmtForm,
-    ) -> Result<(), AllocError> {
+impl Printer<'_, '_> {
+    pub(crate) fn statement(&mut self, row: usize, form: StmtForm) -> Result<(), AllocError> {
         match form {
-            StmtForm::Null => write!(out, "null"),
-            StmtForm::Loop => write!(out, "loop"),
-            StmtForm::On { guard } => {
-                write!(out, "on ")?;
-                self.value(out, row, Name::Arg(guard))
-            }
-            StmtForm::Assign { .. } | StmtForm::Further { .. } => self.chain_row(out, row),
+            StmtForm::Null => write!(self.out, "null"),
+            StmtForm::Loop => write!(self.out, "loop"),
+            StmtForm::On { guard } => self.value("on ", row, guard),
+            StmtForm::Assign { .. } | StmtForm::Further { .. } => self.chain_row(row),
             StmtForm::Any { place } => {
-                self.place(out, row, Name::Arg(place))?;
-                write!(out, " := any")
+                self.place(row, place)?;
+                write!(self.out, " := any")
             }
-            StmtForm::To { state } => {
-                write!(out, "to ")?;
-                self.state(out, Name::Arg(state))
-            }
-            StmtForm::While { .. }
-            | StmtForm::If { .. }
-            | StmtForm::Sequence { .. }
-            | StmtForm::Select { .. } => self.compound(out, row, form),
-            StmtForm::Synchronise { .. } | StmtForm::Send { .. } | StmtForm::Receive { .. } => {
-                self.communication(out, row, form)
-            }
-        }
-    }
-
-    fn compound(self, out: &mut String, row: usize, form: StmtForm) -> Result<(), AllocError> {
-        match form {
             StmtForm::While { condition, body } => {
-                write!(out, "while ")?;
-                self.value(out, row, Name::Row(condition))?;
-                write!(out, " do {} end", Name::Arg(body))
+                self.value("while ", row, condition)?;
+                write!(self.out, " do #{body} end")
             }
             StmtForm::If { condition, then } => {
-                write!(out, "if ")?;
-                self.value(out, row, Name::Row(condition))?;
-                write!(
-                    out,
-                    " then {} else {} end",
-                    Name::Arg(then),
-                    Name::before(row)
-                )
+                self.value("if ", row, condition)?;
+                write!(self.out, " then #{then} else {} end", Name::before(row))
             }
-            StmtForm::Sequence { first, second } => {
-                write!(out, "{}; {}", Name::Row(first), Name::Arg(second))
+            StmtForm::Sequence { first, second } => write!(self.out, "#{first}; #{second}"),
+            StmtForm::Select { left, right } => write!(self.out, "select #{left} [] #{right} end"),
+            StmtForm::To { state } => {
+                write!(self.out, "to ")?;
+                self.state(state)
             }
-            StmtForm::Select { left, right } => {
-                write!(
-                    out,
-                    "select {} [] {} end",
-                    Name::Row(left),
-                    Name::Arg(right)
-                )
-            }
-            _ => Ok(()),
-        }
-    }
-
-    fn communication(self, out: &mut String, row: usize, form: StmtForm) -> Result<(), AllocError> {
-        match form {
-            StmtForm::Synchronise { port } => self.port(out, Name::Arg(port)),
+            StmtForm::Synchronise { port } => self.port(port),
             StmtForm::Send { port, value } => {
-                self.port(out, Name::Row(port))?;
-                write!(out, " ! ")?;
-                self.value(out, row, Name::Arg(value))
+                self.port(port)?;
+                self.value(" ! ", row, value)
             }
             StmtForm::Receive { port, place } => {
-                self.port(out, Name::Row(port))?;
-                write!(out, " ? ")?;
-                self.place(out, row, Name::Arg(place))
+                self.port(port)?;
+                write!(self.out, " ? ")?;
+                self.place(row, place)
             }
-            _ => Ok(()),
         }
     }
 
-    pub(crate) fn state_row(
-        self,
-        out: &mut String,
-        row: usize,
-        statement: i32,
+    // A value after what leads to it.
+    fn value(
+        &mut self,
+        lead: &str,
+        reader: usize,
+        name: impl Into<Name>,
     ) -> Result<(), AllocError> {
-        let number = row.saturating_sub(self.ends.statements);
-        write!(out, "from s{number} ")?;
-        if statement == -1 {
-            write!(out, "(no transition)")
-        } else {
-            write!(out, "{}", Name::Arg(statement))
+        let operand = Operand::new(Sort::Value, name);
+        write!(self.out, "{lead}")?;
+        self.operand(reader, operand, MAX_DEPTH)
+    }
+
+    fn place(&mut self, reader: usize, name: i32) -> Result<(), AllocError> {
+        self.operand(reader, Operand::new(Sort::Place, name), MAX_DEPTH)
+    }
+
+    pub(crate) fn state_row(&mut self, row: usize, statement: i32) -> Result<(), AllocError> {
+        let number = row.saturating_sub(self.sheet.table.ends.statements);
+        write!(self.out, "from s{number} ")?;
+        match statement {
+            NO_STATEMENT => write!(self.out, "(no transition)"),
+            _ => write!(self.out, "#{statement}"),
         }
     }
 }

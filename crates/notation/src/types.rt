@@ -1,104 +1,69 @@
-// Types, variables and ports in Fiacre's notation.
+//! Types, variables and ports in Fiacre's notation.
 use crate::name::Name;
+use crate::printer::Printer;
 use crate::sheet::Sheet;
 use std::alloc::AllocError;
-use tables::form::{Direction, Form, PortForm, TypeForm};
+use tables::form::{Form, PortForm, TypeForm};
 
-// How many arrays around one another are printed.
-const MAX_ARRAYS: usize = 6;
-
-fn scalar(out: &mut String, form: TypeForm) -> Result<(), AllocError> {
-    match form {
-        TypeForm::Bool => write!(out, "bool"),
-        TypeForm::Nat => write!(out, "nat"),
-        TypeForm::Int => write!(out, "int"),
-        TypeForm::Interval { low, span } => {
-            let high = i128::from(low) + span as i128;
-            write!(out, "{low}..{high}")
-        }
-        TypeForm::Array { length, element } => {
-            let element = Name::Arg(element);
-            write!(out, "array {length} of {element}")
-        }
-    }
-}
+/// How many arrays around one another are gone into: the elements of the next are named by their row.
+pub const MAX_ARRAYS: usize = 6;
 
 impl Sheet<'_> {
-    fn earlier_type(self, reader: usize, name: Name) -> Option<(usize, TypeForm)> {
+    fn earlier_type(self, reader: usize, name: impl Into<Name>) -> Option<(usize, TypeForm)> {
         match self.earlier(reader, name)? {
             (row, Form::TypeRow(form)) => Some((row, form)),
             _ => None,
         }
     }
+}
 
+impl Printer<'_, '_> {
     pub(crate) fn type_row(
-        self,
-        out: &mut String,
+        &mut self,
         row: usize,
         form: TypeForm,
+        arrays: usize,
     ) -> Result<(), AllocError> {
-        let mut row = row;
-        let mut form = form;
-        for _ in 0..MAX_ARRAYS {
-            let TypeForm::Array { length, element } = form else {
-                break;
-            };
-            let Some((inner_row, inner)) = self.earlier_type(row, Name::Arg(element)) else {
-                break;
-            };
-            write!(out, "array {length} of ")?;
-            row = inner_row;
-            form = inner;
-        }
-        scalar(out, form)
-    }
-
-    pub(crate) fn type_named(
-        self,
-        out: &mut String,
-        reader: usize,
-        name: Name,
-    ) -> Result<(), AllocError> {
-        match self.earlier_type(reader, name) {
-            Some((row, form)) => self.type_row(out, row, form),
-            None => write!(out, "{name}"),
-        }
-    }
-
-    pub(crate) fn variable_row(
-        self,
-        out: &mut String,
-        row: usize,
-        of: i32,
-    ) -> Result<(), AllocError> {
-        write!(out, "var ")?;
-        self.variable(out, Name::Row(row))?;
-        write!(out, " : ")?;
-        self.type_named(out, row, Name::Arg(of))
-    }
-
-    pub(crate) fn port_row(
-        self,
-        out: &mut String,
-        row: usize,
-        form: PortForm,
-    ) -> Result<(), AllocError> {
-        self.port(out, Name::Row(row))?;
         match form {
-            PortForm::Plain => write!(out, " : none"),
-            PortForm::Carries { way, of } => {
-                let way = direction(way);
-                write!(out, " : {way} ")?;
-                self.type_named(out, row, Name::Arg(of))
+            TypeForm::Bool => write!(self.out, "bool"),
+            TypeForm::Nat => write!(self.out, "nat"),
+            TypeForm::Int => write!(self.out, "int"),
+            TypeForm::Interval { low, span } => {
+                let high = i64::from(low) + i64::from(span);
+                write!(self.out, "{low}..{high}")
+            }
+            TypeForm::Array { length, element } => {
+                write!(self.out, "array {length} of ")?;
+                match self.sheet.earlier_type(row, element) {
+                    Some((inner, form)) if arrays > 0 => { self.type_row(inner, form, arrays - 1) }
+                    _ => write!(self.out, "#{element}"),
+                }
             }
         }
     }
-}
 
-fn direction(way: Direction) -> &'static str {
-    match way {
-        Direction::Receives => "in",
-        Direction::Sends => "out",
-        Direction::Either => "in out",
+    fn type_named(&mut self, reader: usize, of: i32) -> Result<(), AllocError> {
+        match self.sheet.earlier_type(reader, of) {
+            Some((row, form)) => self.type_row(row, form, MAX_ARRAYS),
+            None => write!(self.out, "#{of}"),
+        }
+    }
+
+    pub(crate) fn variable_row(&mut self, row: usize, of: i32) -> Result<(), AllocError> {
+        write!(self.out, "var ")?;
+        self.variable(row)?;
+        write!(self.out, " : ")?;
+        self.type_named(row, of)
+    }
+
+    pub(crate) fn port_row(&mut self, row: usize, form: PortForm) -> Result<(), AllocError> {
+        self.port(row)?;
+        match form {
+            PortForm::Plain => write!(self.out, " : none"),
+            PortForm::Carries { way, of } => {
+                write!(self.out, " : {way} ")?;
+                self.type_named(row, of)
+            }
+        }
     }
 }

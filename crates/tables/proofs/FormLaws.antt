@@ -7,6 +7,7 @@ use Rattle.tables.specs.declared.section.Section.{Section}
 use Rattle.tables.specs.declared.section.Section.TheVariants.{Types, Variables, Ports, Expressions, Statements, States}
 use Rattle.tables.specs.declared.form.TypeForm.{TypeForm}
 use Rattle.tables.specs.declared.form.TypeForm.TheVariants as type
+use Rattle.tables.specs.declared.form.Direction.{Direction}
 use Rattle.tables.specs.declared.form.Direction.TheVariants.{Receives, Sends, Either}
 use Rattle.tables.specs.declared.form.PortForm.{PortForm}
 use Rattle.tables.specs.declared.form.PortForm.TheVariants.{Plain, Carries}
@@ -22,7 +23,7 @@ use Rattle.tables.specs.declared.form.Form.{Form}
 use Rattle.tables.specs.declared.form.Form.TheVariants.{TypeRow, VariableRow, PortRow, ExprRow, StmtRow, StateRow}
 use Rattle.tables.specs.declared.raw.Raw.{Raw}
 use Rattle.tables.specs.Rows.{Rows, section_of, kind, tail}
-use Rattle.tables.specs.Forms.{unary_kind, binary_kind, is_zero, type_of, port_of, unary_of, binary_of, operator_of, expr_of, stmt_of, form_of, form_at, TypeStands, PortStands, ExprStands, StmtStands, Stands, Is, Decoded}
+use Rattle.tables.specs.Forms.{unary_kind, binary_kind, way_tail, is_zero, type_of, way_of, port_of, unary_of, binary_of, operator_of, expr_of, stmt_of, form_of, form_at, TypeStands, PortStands, ExprStands, StmtStands, Stands, Is, Decoded}
 
 -- what the chosen one of two has
 either : {F : Type 0} (b : Bool) (x : F) (o : Option F) (P : F → Type 0) → (b ≡ true → P x) → IfSome o P → IfSome (cond b (Some x) o) P
@@ -43,13 +44,21 @@ module _ (k t : ℕ) (a : ℤ) where
       (either (eqb k 3) (type.Interval a t) _ P (λ h. grind (arith, nat_tests))
       (either (eqb k 4) (type.Array t a) None P (λ h. grind (arith, nat_tests)) tt))))
 
+  way_stands : IfSome (way_of t) (λ w. t ≡ way_tail w)
+  way_stands =
+      let P : Direction → Type 0 = λ w. t ≡ way_tail w in
+      either (eqb t 1) Receives _ P (λ h. grind (arith, nat_tests))
+      (either (eqb t 2) Sends _ P (λ h. grind (arith, nat_tests))
+      (either (eqb t 3) Either None P (λ h. grind (arith, nat_tests)) tt))
+
   port_stands : IfSome (port_of k t a) (λ f. PortStands f k t a)
   port_stands =
       let P : PortForm → Type 0 = λ f. PortStands f k t a in
-      either (eqb k 9 && (eqb t 0 && is_zero a)) Plain _ P (λ h. grind (arith, nat_tests))
-      (either (eqb k 9 && eqb t 1) (Carries Receives a) _ P (λ h. grind (arith, nat_tests))
-      (either (eqb k 9 && eqb t 2) (Carries Sends a) _ P (λ h. grind (arith, nat_tests))
-      (either (eqb k 9 && eqb t 3) (Carries Either a) None P (λ h. grind (arith, nat_tests)) tt)))
+      either (eqb k 9 && (eqb t 0 && is_zero a)) Plain _ P (λ h. grind (arith, nat_tests)) (carries (eqb k 9) refl)
+    where
+      carries : (b : Bool) → eqb k 9 ≡ b → IfSome (cond b (option_map (λ way. Carries way a) (way_of t)) None) (λ f. PortStands f k t a)
+      carries true e = lift (λ way. Carries way a) (way_of t) (λ w. t ≡ way_tail w) (λ f. PortStands f k t a) (λ w h. (grind (arith, nat_tests), h, refl)) way_stands
+      carries false e = tt
 
   unary_stands : IfSome (unary_of k) (λ o. k ≡ unary_kind o)
   unary_stands =

@@ -1,10 +1,8 @@
 pub mod Sections
 pub mod FormLaws
 pub mod TypeLaws
-pub mod Props
 pub mod Idle
 pub mod Descents
-pub mod Layouts
 pub mod CellLaws
 pub mod SortLaws
 pub mod PlaceLaws

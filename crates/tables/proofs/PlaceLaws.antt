@@ -1,9 +1,8 @@
 -- Places keep to their variables, and variables to their own cells.
 use Rattle.std.proofs.Common.{◌≡◌, ℕ, zero, suc, ◌+◌, ◌-◌, ◌*◌, ◌<◌, ◌≤◌, ℤ, Some, None, Option, sym, refl, ap, ◌∙◌, inl, inr, mul-le-mul_right, add-mul, suc-add, zero-add, arith, MatchOption}
-use Rattle.std.proofs.lemmas.Int.{ints}
+use Rattle.std.proofs.lemmas.Int.{ints, to_z-of_z}
 use Rattle.tables.specs.declared.form.TypeForm.{TypeForm}
 use Rattle.tables.specs.declared.form.TypeForm.TheVariants as type
-use Rattle.tables.specs.declared.form.ExprForm.{ExprForm}
 use Rattle.tables.specs.declared.form.ExprForm.TheVariants.{Variable, Element}
 use Rattle.tables.specs.declared.form.Form.{Form}
 use Rattle.tables.specs.declared.form.Form.TheVariants.{TypeRow, VariableRow, PortRow, ExprRow, StmtRow, StateRow}
@@ -16,7 +15,7 @@ use Rattle.tables.specs.Rules.{GoodBelow, Good, Names, TypeNames, ElementTypes}
 use Rattle.tables.specs.Places.{Begins, own, element, CellOf, KeepsToVariable, NeverShare}
 use Rattle.std.proofs.lemmas.Bool.{cases_eq, cases_lt}
 use Rattle.tables.proofs.CellLaws.{cells_array, scalar_own, scalar_element, taken_more, variable_own, variable_base}
-use Rattle.tables.proofs.SortLaws.{at_form, typed_row, variable_row}
+use Rattle.tables.proofs.SortLaws.{at_form, typed_row, variable_row, variable_within}
 
 never : {A : Type 0} → ◌≡◌ {A = ℕ} 0 1 → A
 never e = absurd (omega arith)
@@ -122,25 +121,11 @@ never_share m n good p q lp lq apart x a b =
     below : (a b : ℕ) → a ≤ b → (a ≡ b → ⊥) → a < b
     below a b l ne = elim (cases_eq a b) [ inl e ↦ absurd (ne e) | inr d ↦ omega arith ]
 
--- The variable of a place, from the place's form.
-pub own_variable : (m : Rows) (q : ℕ) (f : ExprForm) (of : ℕ) (v : ℤ) (n : ℕ) → Good m q → form_at m q ≡ Some (ExprRow f) → f ≡ Variable of v → n ≡ whole v → (n ≡ variable_of m q) × SortAt m n sort.Variable
-own_variable m q f of v n g e i h =
-    let is : form_at m q ≡ Some (ExprRow (Variable of v)) = e ∙ ap (λ x. Some (ExprRow x)) i in
-    let names = (at_form m q (ExprRow (Variable of v)) g is).1 in
-    (h ∙ sym (variable_own m q of v is), rw h names.1.1)
-
-pub base_variable : (m : Rows) (q : ℕ) (f : ExprForm) (of : ℕ) (b : ℤ) (p n : ℕ) → Good m q → form_at m q ≡ Some (ExprRow f) → f ≡ Element of b → p ≡ whole b → n ≡ variable_of m p → n ≡ variable_of m q
-base_variable m q f of b p n g e i h k =
-    let is : form_at m q ≡ Some (ExprRow (Element of b)) = e ∙ ap (λ x. Some (ExprRow x)) i in
-    let names = (at_form m q (ExprRow (Element of b)) g is).1 in
-    let l : whole b < q = omega (arith, ints) in
-    k ∙ ap (variable_of m) h ∙ sym (variable_base m q of b is l)
-
--- The scalar of a type, from the type itself.
-pub element_scalar : (m : Rows) (t : ℕ) (f : TypeForm) (length : ℕ) (e : ℤ) (p : ℕ) (g : TypeForm) → Good m t → f ≡ type_at m t → f ≡ type.Array length e → p ≡ whole e → g ≡ scalar_of m p → g ≡ scalar_of m t
-element_scalar m t f length e p g good a i h k =
-    let is : type_at m t ≡ type.Array length e = sym a ∙ i in
-    k ∙ ap (scalar_of m) h ∙ sym (scalar_element m t length e is (array_element m t length e good is))
+-- a good element lies in the variable of its base
+pub base_variable : (m : Rows) (q of : ℕ) (b : ℤ) → Good m q → form_at m q ≡ Some (ExprRow (Element of b)) → variable_of m q ≡ variable_of m (whole b)
+base_variable m q of b g e =
+    let names = (at_form m q (ExprRow (Element of b)) g e).1 in
+    variable_base m q of b e (omega (arith, ints))
 
 pub plain_scalar : (m : Rows) (t : ℕ) (f : TypeForm) → f ≡ type_at m t → Scalar f → f ≡ scalar_of m t
 plain_scalar m t f a s = let h : Scalar (type_at m t) = rw a at s in a ∙ sym (scalar_own m t h)
@@ -151,3 +136,9 @@ no_array type.Nat n = tt
 no_array type.Int n = tt
 no_array (type.Interval low span) n = tt
 no_array (type.Array length e) n = n length e refl
+
+-- from the form of a place, or of a type, to its variable, or its scalar
+pub ruleset descents = (variable_own, base_variable, array_element, scalar_element, plain_scalar, no_array, ints, to_z-of_z)
+
+-- what a place keeps to
+pub ruleset places = (keeps_to_variable, never_share, variable_within)

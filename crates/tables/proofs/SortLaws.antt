@@ -1,6 +1,6 @@
 -- What the sort of a row tells, and what a good row tells of its type.
 use Rattle.std.proofs.Common.{◌≡◌, ℕ, ◌<◌, ◌≤◌, Bool, true, false, cond, ltb, pos, ◌≤ℤ◌, IfSome, Some, None, Option, refl, arith, MatchOption}
-use Rattle.std.proofs.lemmas.Int.{ints}
+use Rattle.std.proofs.lemmas.Int.{ints, to_z-of_z}
 use Rattle.std.proofs.lemmas.Bool.Decides.{nat_tests}
 use Rattle.tables.specs.declared.section.Section.{Section}
 use Rattle.tables.specs.declared.section.Section.TheVariants.{Types, Variables, Ports, Expressions, Statements, States}
@@ -10,10 +10,12 @@ use Rattle.tables.specs.declared.form.Form.{Form}
 use Rattle.tables.specs.declared.form.Form.TheVariants.{TypeRow, VariableRow, PortRow, ExprRow, StmtRow, StateRow}
 use Rattle.tables.specs.declared.form.Sort.{Sort}
 use Rattle.tables.specs.declared.form.Sort.TheVariants as sort
-use Rattle.tables.specs.Rows.{Rows, tail, section_of, WithinSection}
+use Rattle.tables.specs.Rows.{Rows, whole, tail, section_of, WithinSection}
 use Rattle.tables.specs.Forms.{form_at, expr_sort, sort_of, SortAt, HasType, Is}
 use Rattle.tables.specs.Cells.{port_in, port_at}
 use Rattle.tables.specs.Rules.{Asks, All, Good, Names, ExprNames, PortNames, Refers}
+use Rattle.tables.specs.Places.{IsVariable}
+use Rattle.tables.proofs.Sections.{section_is, Ordered}
 use Rattle.tables.proofs.FormLaws.{form_is}
 
 -- where a row of a section lies
@@ -47,15 +49,26 @@ in_section m r s e = rw e at (section_within m r)
 never : {A : Type 0} → ◌≡◌ {A = ℕ} 0 1 → A
 never e = absurd (omega arith)
 
-expr_no_type : (f : ExprForm) → expr_sort f ≡ sort.DataType → ⊥
-expr_no_type (Literal of value) e = never (cc)
-expr_no_type (Read of place) e = never (cc)
-expr_no_type (Unary op of operand) e = never (cc)
-expr_no_type (Binary op of left) e = never (cc)
-expr_no_type (Conditional of condition) e = never (cc)
-expr_no_type (Pair if_true) e = never (cc)
-expr_no_type (Variable of variable) e = never (cc)
-expr_no_type (Element of base) e = never (cc)
+-- expressions, places and pairs have a sort of their own
+abbrev OfExpressions : Sort → Type 0
+OfExpressions sort.DataType = ⊥
+OfExpressions sort.Variable = ⊥
+OfExpressions sort.Port = ⊥
+OfExpressions sort.Value = Unit {0}
+OfExpressions sort.Place = Unit {0}
+OfExpressions sort.Pair = Unit {0}
+OfExpressions sort.Statement = ⊥
+OfExpressions sort.State = ⊥
+
+of_expression : (f : ExprForm) → OfExpressions (expr_sort f)
+of_expression (Literal of value) = tt
+of_expression (Read of place) = tt
+of_expression (Unary op of operand) = tt
+of_expression (Binary op of left) = tt
+of_expression (Conditional of condition) = tt
+of_expression (Pair if_true) = tt
+of_expression (Variable of variable) = tt
+of_expression (Element of base) = tt
 
 -- a row that is a type lies among the types
 pub type_row : (m : Rows) (q : ℕ) → SortAt m q sort.DataType → q < m.types
@@ -66,7 +79,7 @@ type_row m q s = in_section m q Types (from (form_at m q) (form_is m q) s)
     from (Some (TypeRow f)) i e = i.1.0
     from (Some (VariableRow of)) i e = never (cc)
     from (Some (PortRow f)) i e = never (cc)
-    from (Some (ExprRow f)) i e = absurd (expr_no_type f e)
+    from (Some (ExprRow f)) i e = absurd (rw e at (of_expression f))
     from (Some (StmtRow f)) i e = never (cc)
     from (Some (StateRow statement)) i e = never (cc)
 
@@ -117,16 +130,6 @@ typed_row m q s h g a = from (form_at m q) g.0 g.1 (sort_has m q s h a)
     from (Some (StmtRow f)) i n e = absurd e
     from (Some (StateRow statement)) i n e = absurd e
 
-expr_no_port : (f : ExprForm) → expr_sort f ≡ sort.Port → ⊥
-expr_no_port (Literal of value) e = never (cc)
-expr_no_port (Read of place) e = never (cc)
-expr_no_port (Unary op of operand) e = never (cc)
-expr_no_port (Binary op of left) e = never (cc)
-expr_no_port (Conditional of condition) e = never (cc)
-expr_no_port (Pair if_true) e = never (cc)
-expr_no_port (Variable of variable) e = never (cc)
-expr_no_port (Element of base) e = never (cc)
-
 -- a good port names what its form says
 pub port_names : (m : Rows) (q : ℕ) → Good m q → SortAt m q sort.Port → PortNames m q (port_at m q)
 unfolding port_at
@@ -137,12 +140,12 @@ port_names m q g s = from (form_at m q) g.1 s
     from (Some (TypeRow f)) n e = never (cc)
     from (Some (VariableRow of)) n e = never (cc)
     from (Some (PortRow f)) n e = n
-    from (Some (ExprRow f)) n e = absurd (expr_no_port f e)
+    from (Some (ExprRow f)) n e = absurd (rw e at (of_expression f))
     from (Some (StmtRow f)) n e = never (cc)
     from (Some (StateRow statement)) n e = never (cc)
 
 -- the type of a good variable is an earlier row that is one
-pub variable_type : (m : Rows) (v : ℕ) → Good m v → section_of m v ≡ Variables → Refers m v sort.DataType (m.arg v)
+variable_type : (m : Rows) (v : ℕ) → Good m v → section_of m v ≡ Variables → Refers m v sort.DataType (m.arg v)
 variable_type m v g s = from (form_at m v) g.0 g.1
   where
     from : (o : Option Form) → MatchOption o ⊥ (Is m v) → MatchOption o ⊥ (Names m v) → Refers m v sort.DataType (m.arg v)
@@ -154,18 +157,14 @@ variable_type m v g s = from (form_at m v) g.0 g.1
     from (Some (StmtRow f)) i n = (let e = i.1.0 in never (cc))
     from (Some (StateRow statement)) i n = (let e = i.1.0 in never (cc))
 
+-- a good variable names a type, which is one of the types' rows
+pub variable_names : (m : Rows) (v : ℕ) → Good m v → Ordered m → IsVariable m v → Refers m v sort.DataType (m.arg v) × (whole (m.arg v) < m.types)
+variable_names m v g o i =
+    let t = variable_type m v g (section_is m v Variables o i) in
+    (t, type_row m (whole (m.arg v)) t.1)
+
 pub is_some : (m : Rows) (q : ℕ) → Good m q → form_at m q ≡ None → ⊥
 is_some m q g e = rw e at g.0
-
-expr_no_variable : (f : ExprForm) → expr_sort f ≡ sort.Variable → ⊥
-expr_no_variable (Literal of value) e = never (cc)
-expr_no_variable (Read of place) e = never (cc)
-expr_no_variable (Unary op of operand) e = never (cc)
-expr_no_variable (Binary op of left) e = never (cc)
-expr_no_variable (Conditional of condition) e = never (cc)
-expr_no_variable (Pair if_true) e = never (cc)
-expr_no_variable (Variable of variable) e = never (cc)
-expr_no_variable (Element of base) e = never (cc)
 
 -- a row that is a variable: its form, which has the row's arg
 pub variable_row : (m : Rows) (q : ℕ) → SortAt m q sort.Variable → form_at m q ≡ Some (VariableRow (m.arg q))
@@ -176,7 +175,7 @@ variable_row m q s = from (form_at m q) refl (form_is m q) s
     from (Some (TypeRow f)) i e s = never (cc)
     from (Some (VariableRow of)) i e s = (let a = e.1.1.2 in cc)
     from (Some (PortRow f)) i e s = never (cc)
-    from (Some (ExprRow f)) i e s = absurd (expr_no_variable f s)
+    from (Some (ExprRow f)) i e s = absurd (rw s at (of_expression f))
     from (Some (StmtRow f)) i e s = never (cc)
     from (Some (StateRow statement)) i e s = never (cc)
 
@@ -185,3 +184,5 @@ variable_within m q s = in_section m q Variables (section (form_at m q) (variabl
   where
     section : (o : Option Form) → o ≡ Some (VariableRow (m.arg q)) → IfSome o (Is m q) → section_of m q ≡ Variables
     section o e i = (rw e at i).1.0
+
+pub ruleset variables = (variable_names, ints, to_z-of_z)

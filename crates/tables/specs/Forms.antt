@@ -114,12 +114,13 @@ type_of k t a =
     (cond (k == 3) (Some (type.Interval a t))
     (cond (k == 4) (Some (type.Array t a)) None))))
 
+abbrev pub way_of : ℕ → Option Direction
+way_of t = cond (t == 1) (Some Receives) (cond (t == 2) (Some Sends) (cond (t == 3) (Some Either) None))
+
 abbrev pub port_of : ℕ → ℕ → ℤ → Option PortForm
 port_of k t a =
     cond (k == 9 && (t == 0 && is_zero a)) (Some Plain)
-    (cond (k == 9 && t == 1) (Some (Carries Receives a))
-    (cond (k == 9 && t == 2) (Some (Carries Sends a))
-    (cond (k == 9 && t == 3) (Some (Carries Either a)) None)))
+    (cond (k == 9) (option_map (λ way. Carries way a) (way_of t)) None)
 
 abbrev pub unary_of : ℕ → Option UnaryOp
 unary_of k = cond (k == 12) (Some Not) (cond (k == 13) (Some Minus) (cond (k == 14) (Some Coerce) None))

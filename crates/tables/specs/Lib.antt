@@ -6,5 +6,7 @@ pub mod Types
 pub mod Cells
 pub mod Rules
 pub mod Layouts
+pub mod Props
+pub mod Signs
 pub mod Views
 pub mod Places

@@ -1,145 +1,139 @@
-// Taking a row apart: the form that its kind, tail and arg stand for, if there is one.
+//! Taking a row apart: the form that its kind, tail and arg stand for, if there is one.
 ghost use Rattle.std.specs.Prelude.{◌≡◌};
-ghost use Rattle.tables.specs.Forms.{type_of, port_of, unary_of, binary_of, operator_of, expr_of, stmt_of, form_of, expr_sort, sort_of};
+ghost use Rattle.std.specs.Result.{result_ok};
+ghost use Rattle.tables.specs.Forms.{type_of, port_of, way_of, unary_of, binary_of, operator_of, expr_of, stmt_of, form_of};
 
-use crate::form::{
-    BinaryOp, Direction, ExprForm, Form, PortForm, Sort, StmtForm, TypeForm, UnaryOp,
-};
+use crate::form::{BinaryOp, Direction, ExprForm, Form, PortForm, StmtForm, TypeForm, UnaryOp};
 use crate::raw::Raw;
 use crate::section::Section;
 
-impl Raw {
-    fn type_form(self) -> Option<TypeForm>
-        ensures { result ≡ type_of self.kind self.tail self.arg }
-    {
-        match self {
+/// Numbers that stand for no form.
+#[derive(Clone, Copy, PartialEq, Eq, Debug)]
+pub struct NoForm;
+
+impl TryFrom<Raw> for TypeForm {
+    type Error = NoForm;
+
+    ghost try_from_gives = { λ w r. result_ok r ≡ type_of w.kind w.tail w.arg };
+
+    fn try_from(raw: Raw) -> Result<TypeForm, NoForm> {
+        match raw {
             Raw {
                 kind: 0,
                 tail: 0,
                 arg: 0,
-            } => Some(TypeForm::Bool),
+            } => Ok(TypeForm::Bool),
             Raw {
                 kind: 1,
                 tail: 0,
                 arg: 0,
-            } => Some(TypeForm::Nat),
+            } => Ok(TypeForm::Nat),
             Raw {
                 kind: 2,
                 tail: 0,
                 arg: 0,
-            } => Some(TypeForm::Int),
-            Raw { kind: 3, tail, arg } => Some(TypeForm::Interval {
+            } => Ok(TypeForm::Int),
+            Raw { kind: 3, tail, arg } => Ok(TypeForm::Interval {
                 low: arg,
                 span: tail as u32,
             }),
-            Raw { kind: 4, tail, arg } => Some(TypeForm::Array {
+            Raw { kind: 4, tail, arg } => Ok(TypeForm::Array {
                 length: tail as u32,
                 element: arg,
             }),
-            _ => None,
+            _ => Err(NoForm),
         }
     }
+}
 
-    fn port_form(self) -> Option<PortForm>
-        ensures { result ≡ port_of self.kind self.tail self.arg }
-    {
-        match self {
+impl TryFrom<usize> for Direction {
+    type Error = NoForm;
+
+    ghost try_from_gives = { λ tail r. result_ok r ≡ way_of tail };
+
+    fn try_from(tail: usize) -> Result<Direction, NoForm> {
+        match tail {
+            1 => Ok(Direction::Receives),
+            2 => Ok(Direction::Sends),
+            3 => Ok(Direction::Either),
+            _ => Err(NoForm),
+        }
+    }
+}
+
+impl TryFrom<Raw> for PortForm {
+    type Error = NoForm;
+
+    ghost try_from_gives = { λ w r. result_ok r ≡ port_of w.kind w.tail w.arg };
+
+    fn try_from(raw: Raw) -> Result<PortForm, NoForm> {
+        match raw {
             Raw {
                 kind: 9,
                 tail: 0,
                 arg: 0,
-            } => Some(PortForm::Plain),
-            Raw {
-                kind: 9,
-                tail: 1,
-                arg,
-            } => Some(PortForm::Carries {
-                way: Direction::Receives,
-                of: arg,
-            }),
-            Raw {
-                kind: 9,
-                tail: 2,
-                arg,
-            } => Some(PortForm::Carries {
-                way: Direction::Sends,
-                of: arg,
-            }),
-            Raw {
-                kind: 9,
-                tail: 3,
-                arg,
-            } => Some(PortForm::Carries {
-                way: Direction::Either,
-                of: arg,
-            }),
-            _ => None,
+            } => Ok(PortForm::Plain),
+            Raw { kind: 9, tail, arg } => {
+                let way = Direction::try_from(tail)?;
+                Ok(PortForm::Carries { way, of: arg })
+            }
+            _ => Err(NoForm),
         }
     }
+}
 
-    fn unary_op(self) -> Option<UnaryOp>
-        ensures { result ≡ unary_of self.kind }
-    {
-        match self.kind {
-            12 => Some(UnaryOp::Not),
-            13 => Some(UnaryOp::Minus),
-            14 => Some(UnaryOp::Coerce),
-            _ => None,
+impl TryFrom<usize> for UnaryOp {
+    type Error = NoForm;
+
+    ghost try_from_gives = { λ kind r. result_ok r ≡ unary_of kind };
+
+    fn try_from(kind: usize) -> Result<UnaryOp, NoForm> {
+        match kind {
+            12 => Ok(UnaryOp::Not),
+            13 => Ok(UnaryOp::Minus),
+            14 => Ok(UnaryOp::Coerce),
+            _ => Err(NoForm),
         }
     }
+}
 
-    fn binary_op(self) -> Option<BinaryOp>
-        ensures { result ≡ binary_of self.kind }
-    {
-        match self.kind {
-            15 => Some(BinaryOp::And),
-            16 => Some(BinaryOp::Or),
-            17 => Some(BinaryOp::Add),
-            18 => Some(BinaryOp::Sub),
-            19 => Some(BinaryOp::Mul),
-            20 => Some(BinaryOp::Div),
-            21 => Some(BinaryOp::Rem),
-            22 => Some(BinaryOp::Equal),
-            23 => Some(BinaryOp::Unequal),
-            24 => Some(BinaryOp::Less),
-            25 => Some(BinaryOp::AtMost),
-            30 => Some(BinaryOp::Greater),
-            31 => Some(BinaryOp::AtLeast),
-            _ => None,
+impl TryFrom<usize> for BinaryOp {
+    type Error = NoForm;
+
+    ghost try_from_gives = { λ kind r. result_ok r ≡ binary_of kind };
+
+    fn try_from(kind: usize) -> Result<BinaryOp, NoForm> {
+        match kind {
+            15 => Ok(BinaryOp::And),
+            16 => Ok(BinaryOp::Or),
+            17 => Ok(BinaryOp::Add),
+            18 => Ok(BinaryOp::Sub),
+            19 => Ok(BinaryOp::Mul),
+            20 => Ok(BinaryOp::Div),
+            21 => Ok(BinaryOp::Rem),
+            22 => Ok(BinaryOp::Equal),
+            23 => Ok(BinaryOp::Unequal),
+            24 => Ok(BinaryOp::Less),
+            25 => Ok(BinaryOp::AtMost),
+            30 => Ok(BinaryOp::Greater),
+            31 => Ok(BinaryOp::AtLeast),
+            _ => Err(NoForm),
         }
     }
+}
 
-    // A value that an operator makes.
-    fn operator(self) -> Option<ExprForm>
-        ensures { result ≡ operator_of (unary_of self.kind) (binary_of self.kind) self.tail self.arg }
-    {
-        let of = self.tail;
-        match self.unary_op() {
-            Some(op) => Some(ExprForm::Unary {
-                op,
-                of,
-                operand: self.arg,
-            }),
-            None => match self.binary_op() {
-                Some(op) => Some(ExprForm::Binary {
-                    op,
-                    of,
-                    left: self.arg,
-                }),
-                None => None,
-            },
-        }
-    }
+impl TryFrom<Raw> for ExprForm {
+    type Error = NoForm;
 
-    fn expr_form(self) -> Option<ExprForm>
-        ensures { result ≡ expr_of self.kind self.tail self.arg }
-    {
-        match self {
+    ghost try_from_gives = { λ w r. result_ok r ≡ expr_of w.kind w.tail w.arg };
+
+    fn try_from(raw: Raw) -> Result<ExprForm, NoForm> {
+        match raw {
             Raw {
                 kind: 10,
                 tail,
                 arg,
-            } => Some(ExprForm::Literal {
+            } => Ok(ExprForm::Literal {
                 of: tail,
                 value: arg,
             }),
@@ -147,7 +141,7 @@ impl Raw {
                 kind: 11,
                 tail,
                 arg,
-            } => Some(ExprForm::Read {
+            } => Ok(ExprForm::Read {
                 of: tail,
                 place: arg,
             }),
@@ -155,7 +149,7 @@ impl Raw {
                 kind: 26,
                 tail,
                 arg,
-            } => Some(ExprForm::Conditional {
+            } => Ok(ExprForm::Conditional {
                 of: tail,
                 condition: arg,
             }),
@@ -163,12 +157,12 @@ impl Raw {
                 kind: 27,
                 tail: 0,
                 arg,
-            } => Some(ExprForm::Pair { if_true: arg }),
+            } => Ok(ExprForm::Pair { if_true: arg }),
             Raw {
                 kind: 28,
                 tail,
                 arg,
-            } => Some(ExprForm::Variable {
+            } => Ok(ExprForm::Variable {
                 of: tail,
                 variable: arg,
             }),
@@ -176,33 +170,37 @@ impl Raw {
                 kind: 29,
                 tail,
                 arg,
-            } => Some(ExprForm::Element {
+            } => Ok(ExprForm::Element {
                 of: tail,
                 base: arg,
             }),
-            _ => self.operator(),
+            _ => raw.operator(),
         }
     }
+}
 
-    fn stmt_form(self) -> Option<StmtForm>
-        ensures { result ≡ stmt_of self.kind self.tail self.arg }
-    {
-        match self {
+impl TryFrom<Raw> for StmtForm {
+    type Error = NoForm;
+
+    ghost try_from_gives = { λ w r. result_ok r ≡ stmt_of w.kind w.tail w.arg };
+
+    fn try_from(raw: Raw) -> Result<StmtForm, NoForm> {
+        match raw {
             Raw {
                 kind: 32,
                 tail: 0,
                 arg: 0,
-            } => Some(StmtForm::Null),
+            } => Ok(StmtForm::Null),
             Raw {
                 kind: 33,
                 tail: 0,
                 arg,
-            } => Some(StmtForm::On { guard: arg }),
+            } => Ok(StmtForm::On { guard: arg }),
             Raw {
                 kind: 34,
                 tail,
                 arg,
-            } => Some(StmtForm::Assign {
+            } => Ok(StmtForm::Assign {
                 place: tail,
                 value: arg,
             }),
@@ -210,7 +208,7 @@ impl Raw {
                 kind: 35,
                 tail,
                 arg,
-            } => Some(StmtForm::Further {
+            } => Ok(StmtForm::Further {
                 place: tail,
                 value: arg,
             }),
@@ -218,12 +216,12 @@ impl Raw {
                 kind: 36,
                 tail: 0,
                 arg,
-            } => Some(StmtForm::Any { place: arg }),
+            } => Ok(StmtForm::Any { place: arg }),
             Raw {
                 kind: 37,
                 tail,
                 arg,
-            } => Some(StmtForm::While {
+            } => Ok(StmtForm::While {
                 condition: tail,
                 body: arg,
             }),
@@ -231,7 +229,7 @@ impl Raw {
                 kind: 38,
                 tail,
                 arg,
-            } => Some(StmtForm::If {
+            } => Ok(StmtForm::If {
                 condition: tail,
                 then: arg,
             }),
@@ -239,7 +237,7 @@ impl Raw {
                 kind: 39,
                 tail,
                 arg,
-            } => Some(StmtForm::Sequence {
+            } => Ok(StmtForm::Sequence {
                 first: tail,
                 second: arg,
             }),
@@ -247,7 +245,7 @@ impl Raw {
                 kind: 40,
                 tail,
                 arg,
-            } => Some(StmtForm::Select {
+            } => Ok(StmtForm::Select {
                 left: tail,
                 right: arg,
             }),
@@ -255,22 +253,22 @@ impl Raw {
                 kind: 41,
                 tail: 0,
                 arg,
-            } => Some(StmtForm::To { state: arg }),
+            } => Ok(StmtForm::To { state: arg }),
             Raw {
                 kind: 42,
                 tail: 0,
                 arg: 0,
-            } => Some(StmtForm::Loop),
+            } => Ok(StmtForm::Loop),
             Raw {
                 kind: 43,
                 tail: 0,
                 arg,
-            } => Some(StmtForm::Synchronise { port: arg }),
+            } => Ok(StmtForm::Synchronise { port: arg }),
             Raw {
                 kind: 44,
                 tail,
                 arg,
-            } => Some(StmtForm::Send {
+            } => Ok(StmtForm::Send {
                 port: tail,
                 value: arg,
             }),
@@ -278,84 +276,58 @@ impl Raw {
                 kind: 45,
                 tail,
                 arg,
-            } => Some(StmtForm::Receive {
+            } => Ok(StmtForm::Receive {
                 port: tail,
                 place: arg,
             }),
-            _ => None,
+            _ => Err(NoForm),
         }
+    }
+}
+
+impl Raw {
+    // A value that an operator makes.
+    fn operator(self) -> Result<ExprForm, NoForm>
+        ensures { result_ok result ≡ operator_of (unary_of self.kind) (binary_of self.kind) self.tail self.arg }
+    {
+        let of = self.tail;
+        let arg = self.arg;
+        if let Ok(op) = UnaryOp::try_from(self.kind) {
+            return Ok(ExprForm::Unary {
+                op,
+                of,
+                operand: arg,
+            });
+        }
+        let op = BinaryOp::try_from(self.kind)?;
+        Ok(ExprForm::Binary { op, of, left: arg })
     }
 
     // The form of a row of this section.
-    pub(crate) fn form(self, section: Section) -> Option<Form>
-        ensures { result ≡ form_of section self.kind self.tail self.arg }
+    pub(crate) fn form(self, section: Section) -> Result<Form, NoForm>
+        ensures { result_ok result ≡ form_of section self.kind self.tail self.arg }
     {
         match section {
-            Section::Types => match self.type_form() {
-                Some(f) => Some(Form::TypeRow(f)),
-                None => None,
-            },
+            Section::Types => TypeForm::try_from(self).map(Form::TypeRow),
             Section::Variables => match self {
                 Raw {
                     kind: 8,
                     tail: 0,
                     arg,
-                } => Some(Form::VariableRow { of: arg }),
-                _ => None,
+                } => Ok(Form::VariableRow { of: arg }),
+                _ => Err(NoForm),
             },
-            Section::Ports => match self.port_form() {
-                Some(f) => Some(Form::PortRow(f)),
-                None => None,
-            },
-            Section::Expressions => match self.expr_form() {
-                Some(f) => Some(Form::ExprRow(f)),
-                None => None,
-            },
-            Section::Statements => match self.stmt_form() {
-                Some(f) => Some(Form::StmtRow(f)),
-                None => None,
-            },
+            Section::Ports => PortForm::try_from(self).map(Form::PortRow),
+            Section::Expressions => ExprForm::try_from(self).map(Form::ExprRow),
+            Section::Statements => StmtForm::try_from(self).map(Form::StmtRow),
             Section::States => match self {
                 Raw {
                     kind: 48,
                     tail: 0,
                     arg,
-                } => Some(Form::StateRow { statement: arg }),
-                _ => None,
+                } => Ok(Form::StateRow { statement: arg }),
+                _ => Err(NoForm),
             },
-        }
-    }
-}
-
-impl ExprForm {
-    // What the row can be named as.
-    pub fn sort(self) -> Sort
-        ensures { result ≡ expr_sort self }
-    {
-        match self {
-            ExprForm::Literal { .. }
-            | ExprForm::Read { .. }
-            | ExprForm::Unary { .. }
-            | ExprForm::Binary { .. }
-            | ExprForm::Conditional { .. } => Sort::Value,
-            ExprForm::Pair { .. } => Sort::Pair,
-            ExprForm::Variable { .. } | ExprForm::Element { .. } => Sort::Place,
-        }
-    }
-}
-
-impl Form {
-    // What the row can be named as.
-    pub fn sort(self) -> Sort
-        ensures { result ≡ sort_of self }
-    {
-        match self {
-            Form::TypeRow(_) => Sort::DataType,
-            Form::VariableRow { .. } => Sort::Variable,
-            Form::PortRow(_) => Sort::Port,
-            Form::ExprRow(f) => f.sort(),
-            Form::StmtRow(_) => Sort::Statement,
-            Form::StateRow { .. } => Sort::State,
         }
     }
 }

@@ -1,6 +1,7 @@
-// A row as its two words give it: the code taken apart, and the arg.
+//! The fields of a row.
 ghost use Rattle.std.specs.Prelude.{◌^◌, ◌<◌};
 
+/// A row as its two words give it: the code taken apart, and the arg.
 #[derive(Clone, Copy)]
 pub struct Raw {
     pub kind: usize,

@@ -1,5 +1,5 @@
-// The sections of a table, in their order.
-#[derive(Clone, Copy)]
+//! The sections of a table, in their order.
+#[derive(Clone, Copy, PartialEq, Eq, Debug)]
 pub enum Section {
     Types,
     Variables,

@@ -10,10 +10,9 @@ use Rattle.text.specs.declared.scan.Class.TheVariants.{Digit}
 use Rattle.text.specs.declared.scan.Flaw.TheVariants.{TooLarge}
 use Rattle.text.specs.declared.scan.Mode.{Mode}
 use Rattle.text.specs.declared.scan.Mode.TheVariants.{Between, Minus, Number}
-use Rattle.text.specs.Scan.{class_of, step, onward, ranged, shifted, in_range}
+use Rattle.text.specs.Scan.{class_of, step, onward, wordless, ranged, shifted, in_range}
 use Rattle.text.specs.Meaning.{before, following, line_after, means, meaning}
 use Rattle.text.specs.Messages.{words_line}
-use Rattle.text.proofs.Reading.{line_kept}
 
 before_none : (r : Result (List ℤ) ReadError) → before [] r ≡ r
 before_none (Ok ws) = refl
@@ -22,8 +21,11 @@ before_none (Err e) = refl
 class_digit : (d : ℕ) → d < 10 → class_of (48 + d) ≡ Digit d
 class_digit d h = grind (arith, nat_tests)
 
+line_kept : (line b : ℕ) → (b ≡ 10 → ⊥) → line ≡ line_after line b
+line_kept line b h = grind (arith, nat_tests)
+
 -- one digit, in a mode that takes it and goes on in mode m
-digit_read : (line d : ℕ) (mode m : Mode) (rest : List ℕ) → d < 10 → step mode (Digit d) ≡ onward m → means line mode ((48 + d) ∷ rest) ≡ means line m rest
+digit_read : (line d : ℕ) (mode m : Mode) (rest : List ℕ) → d < 10 → step mode (Digit d) ≡ Ok (onward m) → means line mode ((48 + d) ∷ rest) ≡ means line m rest
 digit_read line d mode m rest h e =
     ap (λ c. following line (step mode c) (λ k. means (line_after line (48 + d)) k rest)) (class_digit d h)
     ∙ ap (λ s. following line s (λ k. means (line_after line (48 + d)) k rest)) e
@@ -37,6 +39,10 @@ start negative = cond negative Minus Between
 abbrev number : Bool → ℕ → ℤ
 number negative n = cond negative (neg_ℤ (pos n)) (pos n)
 
+-- the mode after the digits
+abbrev after : Bool → ℕ → Mode
+after negative n = Number (record { negative = negative; value = number negative n })
+
 abbrev limit : Bool → ℕ
 limit negative = cond negative 2147483648 2147483647
 
@@ -48,17 +54,17 @@ in_range_lem : (negative : Bool) (n : ℕ) → n ≤ limit negative → in_range
 in_range_lem true n h = grind (arith, ints, nat_tests)
 in_range_lem false n h = grind (arith, ints, nat_tests)
 
-begins : (negative : Bool) (d : ℕ) → step (start negative) (Digit d) ≡ onward (Number negative (number negative d))
+begins : (negative : Bool) (d : ℕ) → step (start negative) (Digit d) ≡ Ok (onward (after negative d))
 begins true d = refl
 begins false d = refl
 
-goes_on : (negative : Bool) (n : ℕ) → n ≤ limit negative → step (Number negative (number negative (n / 10))) (Digit (n % 10)) ≡ onward (Number negative (number negative n))
+goes_on : (negative : Bool) (n : ℕ) → n ≤ limit negative → step (after negative (n / 10)) (Digit (n % 10)) ≡ Ok (onward (after negative n))
 goes_on negative n h =
-    ap (ranged negative) (shifted-number negative n) ∙ ap (λ b. cond b (onward (Number negative (number negative n))) (Err TooLarge)) (in_range_lem negative n h)
+    ap (λ z. wordless (ranged negative z)) (shifted-number negative n) ∙ ap (λ b. wordless (cond b (Ok (after negative n)) (Err TooLarge))) (in_range_lem negative n h)
 
 -- the digits of n, read from the mode before the first, lead to n
 abbrev Leads : Bool → ℕ → ℕ → List ℕ → Type 0
-Leads negative line n ds = n ≤ limit negative → (rest : List ℕ) → means line (start negative) (ds ++ rest) ≡ means line (Number negative (number negative n)) rest
+Leads negative line n ds = n ≤ limit negative → (rest : List ℕ) → means line (start negative) (ds ++ rest) ≡ means line (after negative n) rest
 
 digits_read : (negative : Bool) (line n : ℕ) → n < 2 ^ 64 → Leads negative line n (decimal n)
 digits_read negative line =
@@ -67,7 +73,7 @@ digits_read negative line =
     (λ n ds big led le rest.
     ap (means line (start negative)) (append_assoc ds ((48 + n % 10) ∷ []) rest)
     ∙ led (omega arith) ((48 + n % 10) ∷ rest)
-    ∙ digit_read line (n % 10) (Number negative (number negative (n / 10))) _ rest (omega arith) (goes_on negative n le))
+    ∙ digit_read line (n % 10) (after negative (n / 10)) _ rest (omega arith) (goes_on negative n le))
 
 word_read : (line : ℕ) (z : ℤ) (rest : List ℕ) → mag z < 2147483648 → means line Between ((signed_decimal z ++ (32 ∷ [])) ++ rest) ≡ before (z ∷ []) (means line Between rest)
 word_read line (pos n) rest h =

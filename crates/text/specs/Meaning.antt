@@ -1,5 +1,5 @@
 -- What a text means: the words that stand in it, or its first line that is at fault.
-use Rattle.std.specs.Prelude.{◌≡◌, ℕ, ◌+◌, cond, List, [], ◌∷◌, ◌++◌, ℤ, Ok, Err, vec_items, Result, Vec, ◌==◌}
+use Rattle.std.specs.Prelude.{◌≡◌, ℕ, ◌+◌, if◌then◌else◌, List, [], ◌∷◌, ◌++◌, ℤ, Ok, Err, vec_items, Result, Vec, ◌==◌}
 use Rattle.std.specs.declared.alloc.Global.{Global}
 use Rattle.std.specs.Option.{option_to_list}
 use Rattle.text.specs.declared.error.ReadError.{ReadError}
@@ -29,7 +29,7 @@ following line (Ok s) rest = before (option_to_list s.word) (rest s.mode)
 following line (Err f) rest = Err (at line f)
 
 abbrev pub line_after : ℕ → ℕ → ℕ
-line_after line b = cond (b == 10) (line + 1) line
+line_after line b = if b == 10 then line + 1 else line
 
 -- what bytes mean from this line on, in this mode; the end of the text ends its last line
 abbrev pub means : ℕ → Mode → List ℕ → Result (List ℤ) ReadError

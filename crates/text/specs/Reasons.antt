@@ -1,5 +1,5 @@
 -- Why a row is refused: by the rule that it breaks and, at some rules, by its form.
-use Rattle.std.specs.Prelude.{cond, ◌||◌, Some, None, Option, ◌==◌, nat_lt}
+use Rattle.std.specs.Prelude.{if◌then◌else◌, ◌||◌, Some, None, Option, ◌==◌, nat_lt}
 use Rattle.tables.specs.declared.form.Form.{Form}
 use Rattle.tables.specs.declared.form.Form.TheVariants.{TypeRow, VariableRow, PortRow, ExprRow, StmtRow, StateRow}
 use Rattle.tables.specs.declared.form.TypeForm.{TypeForm}
@@ -18,7 +18,7 @@ type_reason type.Bool = ManyCells
 type_reason type.Nat = ManyCells
 type_reason type.Int = ManyCells
 type_reason (type.Interval low span) = IntervalEnd
-type_reason (type.Array length element) = cond (length == 0 || nat_lt 1024 length) ArrayLength ManyCells
+type_reason (type.Array length element) = if length == 0 || nat_lt 1024 length then ArrayLength else ManyCells
 
 -- what is too large about a row
 abbrev pub extent_reason : Option Form → Reason
@@ -37,7 +37,7 @@ statement_reason (stmt.Assign place value) = NoRow
 statement_reason (stmt.Further place value) = NoRow
 statement_reason (stmt.Any place) = NoRow
 statement_reason (stmt.While condition body) = NoRow
-statement_reason (stmt.If condition then) = NoRow
+statement_reason (stmt.If condition body) = NoRow
 statement_reason (stmt.Sequence first second) = NoRow
 statement_reason (stmt.Select left right) = NoRow
 statement_reason (stmt.To state) = NoState

@@ -1,13 +1,16 @@
-// Why a text holds no words.
-ghost use Rattle.std.specs.Prelude.{Some};
+//! Why a text holds no words.
+ghost use Rattle.std.specs.Prelude.{◌≡◌, Some};
+ghost use Rattle.text.specs.declared.error.ReadError.TheVariants.{NoMemory};
 ghost use Rattle.text.specs.Messages.{message};
 
+use std::alloc::AllocFailed;
+use std::error::Error;
 use std::fmt;
 
 #[derive(Clone, Copy, PartialEq, Eq, Debug)]
 pub enum ReadError {
     NotANumber { line: usize },
-    // a number outside what an `i32` holds
+    /// a number outside what an `i32` holds
     TooLarge { line: usize },
     NoMemory,
 }
@@ -23,5 +26,15 @@ impl fmt::Display for ReadError {
             }
             ReadError::NoMemory => write!(f, "out of memory"),
         }
+    }
+}
+
+impl Error for ReadError {}
+
+impl<T: Drop> From<AllocFailed<T>> for ReadError {
+    ghost from_gives = { λ _ e. e ≡ NoMemory };
+
+    fn from(_refused: AllocFailed<T>) -> Self {
+        Self::NoMemory
     }
 }

@@ -1,4 +1,4 @@
-// Models as text: reading and writing words, and printing verdicts and notes.
+//! Models as text: reading and writing words, and printing verdicts and notes.
 #![tactic(auto)]
 
 pub mod error;

@@ -1,12 +1,11 @@
-// The verdict on a model, as one line, and the notes of its rows.
-ghost use Rattle.std.specs.Prelude.{◌≡◌, ◌∷◌, ◌++◌, IfOk, string_bytes, decimal, OnOk};
+//! The verdict on a model, as one line, and the notes of its rows.
+ghost use Rattle.std.specs.Prelude.{◌≡◌, IfOk, string_bytes};
 ghost use Rattle.text.specs.Messages.{accepted_line, FormTold, Explained, notes_line};
 
 use crate::reason::Reason;
 use checking::fault::CheckFault;
 use std::alloc::{AllocError, Global};
 use tables::form::Form;
-use tables::sizes::sections;
 use tables::table::Table;
 
 pub fn accepted(
@@ -24,34 +23,19 @@ pub fn accepted(
 fn form_told(words: &[i32], fault: CheckFault) -> Option<Form>
     ensures { FormTold words.now fault result }
 {
-    let ends = sections(words)?;
-    let table = Table::of(words, ends);
-    let row = fault.row()?;
-    if row < table.rows() {
-        table.form(row)
-    } else {
-        None
-    }
+    let table = Table::try_from(words).ok()?;
+    table.row(fault.row()?)?.form()
 }
 
-// Why words are no model. A reason may depend on the row that is at fault.
+/// Why words are no model. A reason may depend on the row that is at fault.
 pub fn refused(heap: Global, words: &[i32], fault: CheckFault) -> Result<String, AllocError>
     ensures { IfOk result (λ s. Explained words.now fault (string_bytes s)) }
 {
-    let reason = Reason::of(fault, form_told(words, fault)).phrase();
+    let reason = Reason::of(fault, form_told(words, fault));
     let number = fault.number();
     match fault {
         CheckFault::Row(row, _) => format!(in heap; "refused {number} at row {row}: {reason}"),
         _ => format!(in heap; "refused {number}: {reason}"),
-    }
-}
-
-fn put_note(line: &mut String, note: u8) -> Result<(), AllocError>
-    ensures { OnOk result (string_bytes line.new ≡ string_bytes line.old ++ (32 ∷ decimal note)) }
-{
-    match write!(line, " {note}") {
-        Ok(()) => Ok(()),
-        Err(_) => Err(AllocError),
     }
 }
 
@@ -60,7 +44,7 @@ pub fn notes(heap: Global, notes: &[u8]) -> Result<String, AllocError>
 {
     let mut line = String::from_str(heap, "notes:")?;
     for note in notes {
-        put_note(&mut line, *note)?;
+        write!(line, " {note}")?;
     }
     Ok(line)
 }

@@ -1,4 +1,4 @@
-// What is read and printed, on examples.
+//! What is read and printed, on examples.
 #![tactic(auto)]
 
 #[cfg(test)]

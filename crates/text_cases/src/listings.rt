@@ -1,4 +1,4 @@
-// The tables of models, row by row.
+//! The tables of models, row by row.
 use notation::listing::listing;
 use std::test::Fail;
 use text::read::read_words;

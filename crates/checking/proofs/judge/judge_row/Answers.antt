@@ -1,14 +1,14 @@
 use Rattle.std.proofs.Common.{sym, arith}
-use Rattle.tables.specs.Views.{table_rows}
+use Rattle.tables.specs.Views.{row_rows}
 use Rattle.checking.proofs.JudgeLaws.{judged}
 use Rattle.checking.proofs.judge.judge_row.Goals as goal
 
-pub returns-in-Some : goal.returns-in-Some
-returns-in-Some c =
+pub returns : goal.returns
+returns c =
     let l = c.requires.laid.cells in
     judged
-    (table_rows c.args.table)
-    c.args.r
+    (row_rows c.args.row)
+    c.args.row.number
     (omega arith, omega arith, omega arith, omega arith)
     (omega arith)
     c.in-Some.form

@@ -18,4 +18,4 @@ invariant_of-result c = record {
 }
 
 pub invariant_of-result-2 : goal.invariant_of-result-2
-invariant_of-result-2 c = record { good = ∣ idle_good ∣₁; laid = ∣ idle_laid c.empty.result c.empty.ensures ∣₁ }
+invariant_of-result-2 c = record { good = idle_good; laid = idle_laid c.empty.result c.empty.ensures }
