@@ -40,7 +40,10 @@ impl TryFrom<(i32, i32)> for Answer {
         }
         Ok(Answer(Err(Refusal {
             number: u8::try_from(number)?,
-            row: usize::try_from(row).ok(),
+            row: match row {
+                -1 => None,
+                row => Some(usize::try_from(row)?),
+            },
         })))
     }
 }

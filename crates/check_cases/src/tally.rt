@@ -4,7 +4,7 @@ use std::io;
 
 #[derive(Clone, Copy)]
 pub struct Tally {
-    // by the expected number, 0 for accepted
+    // by the expected number, 0 for accepted: an array, since there are ten
     cases: [u32; 10],
     pub wrong: u32,
 }

@@ -1,4 +1,3 @@
-pub mod LayLaws
 pub mod JudgeLaws
 pub mod NoteLaws
 pub mod WorkedLaws

@@ -17,6 +17,7 @@ pub enum CheckFault {
 }
 
 impl CheckFault {
+    // A call, and no `From`, since users know it by its name.
     /// The number that the fault is known by.
     pub fn number(self) -> u8
         ensures { result ≡ number self }
@@ -24,6 +25,7 @@ impl CheckFault {
         match self {
             CheckFault::Sizes => 1,
             CheckFault::Notes => 2,
+            // an enum's number is read by `as` alone
             CheckFault::Row(_, rule) => rule as u8,
         }
     }
@@ -42,8 +44,8 @@ impl CheckFault {
 impl From<WrongSizes> for CheckFault {
     ghost from_gives = { λ _ f. f ≡ Sizes };
 
-    fn from(_sizes: WrongSizes) -> CheckFault {
-        CheckFault::Sizes
+    fn from(_sizes: WrongSizes) -> Self {
+        Self::Sizes
     }
 }
 
@@ -57,7 +59,7 @@ pub(crate) struct Broken {
 impl From<Broken> for CheckFault {
     ghost from_gives = { λ b f. f ≡ Row b.row b.rule };
 
-    fn from(broken: Broken) -> CheckFault {
-        CheckFault::Row(broken.row, broken.rule)
+    fn from(broken: Broken) -> Self {
+        Self::Row(broken.row, broken.rule)
     }
 }

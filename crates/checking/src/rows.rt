@@ -21,6 +21,7 @@ pub(crate) fn judge_rows(
     requires empty { Empty layout.old }
     ensures { JudgedRows (table_rows table.entry) notes.old notes.new layout.new result }
 {
+    // The loop is left with what it found, which is then the value of the block.
     'judging: {
         for number in 0..table.rows() {
             let row = Row { table, number };

@@ -14,19 +14,30 @@ use crate::naming::RowNumber;
 use tables::form::{Sort, TypeForm};
 use tables::good::GoodRow;
 use tables::layout::Layout;
-use tables::row::Row;
+use tables::row::{Row, row_named};
 use tables::rule::Rule;
 
-/// A row whose turn it is: all rows before it are good, noted and laid out.
+/// A row whose turn it is: all rows before it are good.
 #[derive(Clone, Copy)]
 pub struct Candidate<'a> {
     pub row: Row<'a>,
-    pub notes: &'a [u8],
-    pub layout: &'a Layout,
     ghost good: { GoodBelow (rows_of row.table.words.now) row.number } by { good_below_prop (rows_of row.table.words.now) row.number },
-    ghost noted: { NotedBelow (rows_of row.table.words.now) row.number notes.now } by { noted_below_prop (rows_of row.table.words.now) row.number notes.now },
-    ghost laid: { LaidOut (rows_of row.table.words.now) row.number layout.now } by { laid_out_prop (rows_of row.table.words.now) row.number layout.now },
-    ghost small: { layout.now.cells ≤ 4096 },
+}
+
+/// A candidate, and notes that tell which of the rows before it communicate.
+#[derive(Clone, Copy)]
+pub struct NotedCandidate<'a> {
+    pub candidate: Candidate<'a>,
+    pub notes: &'a [u8],
+    ghost noted: { NotedBelow (rows_of candidate.row.table.words.now) candidate.row.number notes.now } by { noted_below_prop (rows_of candidate.row.table.words.now) candidate.row.number notes.now },
+}
+
+/// A candidate, and the layout of the rows before it.
+#[derive(Clone, Copy)]
+pub struct LaidCandidate<'a> {
+    pub candidate: Candidate<'a>,
+    pub layout: &'a Layout,
+    ghost laid: { LaidOut (rows_of candidate.row.table.words.now) candidate.row.number layout.now } by { laid_out_prop (rows_of candidate.row.table.words.now) candidate.row.number layout.now },
 }
 
 impl<'a> Candidate<'a> {
@@ -89,22 +100,30 @@ impl<'a> Candidate<'a> {
         let pair = self.named(self.before(), Sort::Pair)?;
         Ok(types_of_sides(pair))
     }
+}
+
+impl NotedCandidate<'_> {
+    ghost use Rattle.judging.specs.Candidates.{candidate_rows};
+
+    // Whether the statement that `n` names communicates, as its note says.
+    pub(crate) fn part<N: RowNumber>(self, n: N) -> Result<bool, Rule>
+        ensures { Named (candidate_rows self.entry.candidate) self.entry.candidate.row.number Sort.Statement (N.number n) (λ b. b ≡ communicates (candidate_rows self.entry.candidate) (whole (N.number n))) result }
+    {
+        let named = self.candidate.named(n, Sort::Statement)?;
+        Ok(self.notes[named.row.number] % 2 == 1)
+    }
+}
+
+impl LaidCandidate<'_> {
+    ghost use Rattle.judging.specs.Candidates.{candidate_rows};
 
     // The cells of the type that `of` names.
     #[tactic(auto, using(crate::proofs::LayoutLaws::named_types))]
     pub(crate) fn cells_of(self, of: i32) -> Result<usize, Rule>
-        ensures { Named (candidate_rows self.entry) self.entry.row.number Sort.DataType of (λ n. (n ≡ cells (candidate_rows self.entry) (whole of)) × (n < 65536)) result }
+        ensures { Named (candidate_rows self.entry.candidate) self.entry.candidate.row.number Sort.DataType of (λ n. (n ≡ cells (candidate_rows self.entry.candidate) (whole of)) × (n < 65536)) result }
     {
-        let named = self.named(of, Sort::DataType)?;
+        let named = self.candidate.named(of, Sort::DataType)?;
         Ok(usize::from(self.layout.sizes[named.row.number]))
-    }
-
-    // Whether the statement that `n` names communicates, as its note says.
-    pub(crate) fn part<N: RowNumber>(self, n: N) -> Result<bool, Rule>
-        ensures { Named (candidate_rows self.entry) self.entry.row.number Sort.Statement (N.number n) (λ b. b ≡ communicates (candidate_rows self.entry) (whole (N.number n))) result }
-    {
-        let named = self.named(n, Sort::Statement)?;
-        Ok(self.notes[named.row.number] % 2 == 1)
     }
 }
 
@@ -125,7 +144,7 @@ fn types_of_sides(pair: GoodRow<'_>) -> (TypeForm, TypeForm)
     requires { SortAt (good_rows pair) pair.row.number Sort.Pair }
     ensures { (result.0 ≡ type_of_row (good_rows pair.entry) (whole ((good_rows pair.entry).arg pair.entry.row.number))) × (result.1 ≡ type_of_row (good_rows pair.entry) (pair.entry.row.number - 1)) }
 {
-    let if_true = pair.row.arg().unsigned_abs() as usize;
+    let if_true = row_named(pair.row.arg());
     let if_false = pair.row.number.saturating_sub(1);
     (
         type_of_row(pair.earlier(if_true)),

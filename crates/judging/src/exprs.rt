@@ -9,6 +9,7 @@ ghost use Rattle.judging.specs.Judging.{Judges, Nothing};
 
 use crate::candidate::Candidate;
 use tables::form::{BinaryOp, ExprForm, Sort, TypeForm, UnaryOp};
+use tables::row::row_named;
 use tables::rule::Rule;
 
 impl Candidate<'_> {
@@ -95,7 +96,7 @@ impl Candidate<'_> {
     {
         self.named(of, Sort::DataType)?;
         let variable = self.named(variable, Sort::Variable)?;
-        if variable.row.arg().unsigned_abs() as usize == of {
+        if row_named(variable.row.arg()) == of {
             Ok(())
         } else {
             Err(Rule::Typing)
@@ -176,8 +177,7 @@ fn element_types(base: TypeForm, of: usize, index: TypeForm) -> bool
     ensures { IsTrue result ↔ (ElementTypes base of index) }
 {
     match base {
-        TypeForm::Array { length, element } => element.unsigned_abs() as usize == of
-            && index.indexes(length),
+        TypeForm::Array { length, element } => row_named(element) == of && index.indexes(length),
         TypeForm::Bool | TypeForm::Nat | TypeForm::Int | TypeForm::Interval { .. } => false,
     }
 }

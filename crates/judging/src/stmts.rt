@@ -9,10 +9,11 @@ ghost use Rattle.tables.specs.Rules.{Follows, IsAssignment, MaySend, MayReceive,
 ghost use Rattle.tables.specs.Views.{good_rows};
 ghost use Rattle.judging.specs.Judging.{Judges, Nothing};
 
-use crate::candidate::Candidate;
+use crate::candidate::{Candidate, NotedCandidate};
 use crate::chain::Chain;
 use tables::form::{Direction, PortForm, Sort, StmtForm, TypeForm};
 use tables::good::GoodRow;
+use tables::row::row_named;
 use tables::rule::Rule;
 
 impl<'a> Candidate<'a> {
@@ -129,12 +130,16 @@ impl<'a> Candidate<'a> {
             Err(Rule::Statement)
         }
     }
+}
+
+impl NotedCandidate<'_> {
+    ghost use Rattle.judging.specs.Candidates.{candidate_rows};
 
     fn judge_while(self, condition: usize, body: i32) -> Result<bool, Rule>
-        requires { Is (candidate_rows self) self.row.number (StmtRow (While condition body)) }
-        ensures { Judges (candidate_rows self.entry) self.entry.row.number (StmtRow (While condition body)) (λ b. b ≡ communicates (candidate_rows self.entry) (whole body)) result }
+        requires { Is (candidate_rows self.candidate) self.candidate.row.number (StmtRow (While condition body)) }
+        ensures { Judges (candidate_rows self.entry.candidate) self.entry.candidate.row.number (StmtRow (While condition body)) (λ b. b ≡ communicates (candidate_rows self.entry.candidate) (whole body)) result }
     {
-        let condition = self.type_of(condition, Sort::Value)?;
+        let condition = self.candidate.type_of(condition, Sort::Value)?;
         let body = self.part(body)?;
         if !condition.is_bool() {
             return Err(Rule::Statement);
@@ -147,12 +152,12 @@ impl<'a> Candidate<'a> {
     }
 
     fn judge_if(self, condition: usize, then: i32) -> Result<bool, Rule>
-        requires { Is (candidate_rows self) self.row.number (StmtRow (If condition then)) }
-        ensures { Judges (candidate_rows self.entry) self.entry.row.number (StmtRow (If condition then)) (λ b. b ≡ (communicates (candidate_rows self.entry) (whole then) || communicates (candidate_rows self.entry) (self.entry.row.number - 1))) result }
+        requires { Is (candidate_rows self.candidate) self.candidate.row.number (StmtRow (If condition then)) }
+        ensures { Judges (candidate_rows self.entry.candidate) self.entry.candidate.row.number (StmtRow (If condition then)) (λ b. b ≡ (communicates (candidate_rows self.entry.candidate) (whole then) || communicates (candidate_rows self.entry.candidate) (self.entry.candidate.row.number - 1))) result }
     {
-        let condition = self.type_of(condition, Sort::Value)?;
+        let condition = self.candidate.type_of(condition, Sort::Value)?;
         let then = self.part(then)?;
-        let other = self.part(self.before())?;
+        let other = self.part(self.candidate.before())?;
         if condition.is_bool() {
             Ok(then || other)
         } else {
@@ -161,8 +166,8 @@ impl<'a> Candidate<'a> {
     }
 
     fn judge_sequence(self, first: usize, second: i32) -> Result<bool, Rule>
-        requires { Is (candidate_rows self) self.row.number (StmtRow (Sequence first second)) }
-        ensures { Judges (candidate_rows self.entry) self.entry.row.number (StmtRow (Sequence first second)) (λ b. b ≡ (communicates (candidate_rows self.entry) first || communicates (candidate_rows self.entry) (whole second))) result }
+        requires { Is (candidate_rows self.candidate) self.candidate.row.number (StmtRow (Sequence first second)) }
+        ensures { Judges (candidate_rows self.entry.candidate) self.entry.candidate.row.number (StmtRow (Sequence first second)) (λ b. b ≡ (communicates (candidate_rows self.entry.candidate) first || communicates (candidate_rows self.entry.candidate) (whole second))) result }
     {
         let first = self.part(first)?;
         let second = self.part(second)?;
@@ -174,8 +179,8 @@ impl<'a> Candidate<'a> {
     }
 
     fn judge_select(self, left: usize, right: i32) -> Result<bool, Rule>
-        requires { Is (candidate_rows self) self.row.number (StmtRow (Select left right)) }
-        ensures { Judges (candidate_rows self.entry) self.entry.row.number (StmtRow (Select left right)) (λ b. b ≡ (communicates (candidate_rows self.entry) left || communicates (candidate_rows self.entry) (whole right))) result }
+        requires { Is (candidate_rows self.candidate) self.candidate.row.number (StmtRow (Select left right)) }
+        ensures { Judges (candidate_rows self.entry.candidate) self.entry.candidate.row.number (StmtRow (Select left right)) (λ b. b ≡ (communicates (candidate_rows self.entry.candidate) left || communicates (candidate_rows self.entry.candidate) (whole right))) result }
     {
         let left = self.part(left)?;
         let right = self.part(right)?;
@@ -184,47 +189,30 @@ impl<'a> Candidate<'a> {
 
     /// Judges the statement, and tells whether it communicates.
     pub fn judge_stmt(self, f: StmtForm) -> Result<bool, Rule>
-        requires { Is (candidate_rows self) self.row.number (StmtRow f) }
-        ensures { Judges (candidate_rows self.entry) self.entry.row.number (StmtRow f) (λ b. b ≡ communicates_by f self.entry.row.number (communicates (candidate_rows self.entry))) result }
+        requires { Is (candidate_rows self.candidate) self.candidate.row.number (StmtRow f) }
+        ensures { Judges (candidate_rows self.entry.candidate) self.entry.candidate.row.number (StmtRow f) (λ b. b ≡ communicates_by f self.entry.candidate.row.number (communicates (candidate_rows self.entry.candidate))) result }
     {
+        let candidate = self.candidate;
         match f {
             StmtForm::Null | StmtForm::Loop => Ok(false),
-            StmtForm::On { guard } => {
-                self.judge_on(guard)?;
-                Ok(false)
-            }
-            StmtForm::Assign { place, value } => {
-                self.judge_assign(place, value)?;
-                Ok(false)
-            }
-            StmtForm::Further { place, value } => {
-                self.judge_further(place, value)?;
-                Ok(false)
-            }
-            StmtForm::Any { place } => {
-                self.judge_any(place)?;
-                Ok(false)
-            }
+            StmtForm::On { guard } => candidate.judge_on(guard).map(|()| false),
+            StmtForm::Assign { place, value } => candidate
+                .judge_assign(place, value)
+                .map(|()| false),
+            StmtForm::Further { place, value } => candidate
+                .judge_further(place, value)
+                .map(|()| false),
+            StmtForm::Any { place } => candidate.judge_any(place).map(|()| false),
             StmtForm::While { condition, body } => self.judge_while(condition, body),
             StmtForm::If { condition, then } => self.judge_if(condition, then),
             StmtForm::Sequence { first, second } => self.judge_sequence(first, second),
             StmtForm::Select { left, right } => self.judge_select(left, right),
-            StmtForm::To { state } => {
-                self.judge_to(state)?;
-                Ok(false)
-            }
-            StmtForm::Synchronise { port } => {
-                self.judge_synchronise(port)?;
-                Ok(true)
-            }
-            StmtForm::Send { port, value } => {
-                self.judge_send(port, value)?;
-                Ok(true)
-            }
-            StmtForm::Receive { port, place } => {
-                self.judge_receive(port, place)?;
-                Ok(true)
-            }
+            StmtForm::To { state } => candidate.judge_to(state).map(|()| false),
+            StmtForm::Synchronise { port } => candidate.judge_synchronise(port).map(|()| true),
+            StmtForm::Send { port, value } => candidate.judge_send(port, value).map(|()| true),
+            StmtForm::Receive { port, place } => candidate
+                .judge_receive(port, place)
+                .map(|()| true),
         }
     }
 }
@@ -247,7 +235,7 @@ fn carried(port: GoodRow<'_>, of: i32) -> TypeForm
     requires { Refers (good_rows port) port.row.number Sort.DataType of }
     ensures { result ≡ type_at (good_rows port.entry) (whole of) }
 {
-    port.earlier(of.unsigned_abs() as usize).row.type_form()
+    port.earlier(row_named(of)).row.type_form()
 }
 
 // Whether a value of this type may be sent at the port.

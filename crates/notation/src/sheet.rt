@@ -1,5 +1,5 @@
 //! The rows of a table as printing sees them: any number may be asked for.
-ghost use Rattle.std.specs.Prelude.{MatchOption};
+ghost use Rattle.std.specs.Prelude.{◌≡◌, MatchOption};
 ghost use Rattle.tables.specs.Words.{Sized};
 ghost use Rattle.tables.specs.Views.{table_rows};
 ghost use Rattle.notation.specs.Formed.{Formed};
@@ -15,7 +15,7 @@ pub struct Sheet<'a> {
 
 impl<'a> Sheet<'a> {
     pub(crate) fn of(words: &'a [i32]) -> Option<Sheet<'a>>
-        ensures { MatchOption result (Sized words.now → ⊥) (λ _. Sized words.now) }
+        ensures { MatchOption result (Sized words.now → ⊥) (λ s. Sized words.now × (s.table.words ≡ words.entry)) }
     {
         let table = Table::try_from(words).ok()?;
         Some(Sheet { table })

@@ -21,14 +21,29 @@ impl Printer<'_, '_> {
             }
             StmtForm::While { condition, body } => {
                 self.value("while ", row, condition)?;
-                write!(self.out, " do #{body} end")
+                write!(self.out, " do {} end", Name::from(body))
             }
             StmtForm::If { condition, then } => {
                 self.value("if ", row, condition)?;
-                write!(self.out, " then #{then} else {} end", Name::before(row))
+                write!(
+                    self.out,
+                    " then {} else {} end",
+                    Name::from(then),
+                    Name::before(row)
+                )
             }
-            StmtForm::Sequence { first, second } => write!(self.out, "#{first}; #{second}"),
-            StmtForm::Select { left, right } => write!(self.out, "select #{left} [] #{right} end"),
+            StmtForm::Sequence { first, second } => write!(
+                self.out,
+                "{}; {}",
+                Name::from(first),
+                Name::from(second)
+            ),
+            StmtForm::Select { left, right } => write!(
+                self.out,
+                "select {} [] {} end",
+                Name::from(left),
+                Name::from(right)
+            ),
             StmtForm::To { state } => {
                 write!(self.out, "to ")?;
                 self.state(state)
@@ -67,7 +82,7 @@ impl Printer<'_, '_> {
         write!(self.out, "from s{number} ")?;
         match statement {
             NO_STATEMENT => write!(self.out, "(no transition)"),
-            _ => write!(self.out, "#{statement}"),
+            _ => write!(self.out, "{}", Name::from(statement)),
         }
     }
 }

@@ -36,7 +36,7 @@ impl Printer<'_, '_> {
                 write!(self.out, "array {length} of ")?;
                 match self.sheet.earlier_type(row, element) {
                     Some((inner, form)) if arrays > 0 => { self.type_row(inner, form, arrays - 1) }
-                    _ => write!(self.out, "#{element}"),
+                    _ => write!(self.out, "{}", Name::from(element)),
                 }
             }
         }
@@ -45,7 +45,7 @@ impl Printer<'_, '_> {
     fn type_named(&mut self, reader: usize, of: i32) -> Result<(), AllocError> {
         match self.sheet.earlier_type(reader, of) {
             Some((row, form)) => self.type_row(row, form, MAX_ARRAYS),
-            None => write!(self.out, "#{of}"),
+            None => write!(self.out, "{}", Name::from(of)),
         }
     }
 

@@ -1,4 +1,4 @@
-// What the calls of each store cost, at 64 and at 4096 cells.
+//! What the calls of each store cost, at 64 and at 4096 cells.
 #![tactic(auto)]
 
 mod timing;

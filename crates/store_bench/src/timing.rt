@@ -1,4 +1,4 @@
-// Rounds of writes, timed.
+//! Rounds of writes, timed.
 use anyhow::anyhow;
 use std::ops::AddAssign;
 use std::time::{Duration, Instant};

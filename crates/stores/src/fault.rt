@@ -19,10 +19,12 @@ pub enum StoreFault {
 }
 
 impl StoreFault {
+    // A call, and no `From`, since users know it by its name.
     /// The number that the refusal is known by.
     pub fn number(self) -> u8
         ensures { result ≡ number self }
     {
+        // an enum's number is read by `as` alone
         self as u8
     }
 }

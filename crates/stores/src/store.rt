@@ -35,6 +35,7 @@ pub trait PlainStore: Store {
 }
 
 /// A store whose writes can be taken back to where a transaction began.
+// Each call has its own `outside`, `inside` and `beside`: a word for `beside` unchanged would be no shorter.
 pub trait TransactionalStore: Store {
     /// What `begin` gives, and only `commit` and `rollback` take. Code over any store cannot let it go, since it need not be `Drop`.
     type Token;

@@ -114,6 +114,7 @@ type_of k t a =
     (cond (k == 3) (Some (type.Interval a t))
     (cond (k == 4) (Some (type.Array t a)) None))))
 
+-- which way values pass, by the tail
 abbrev pub way_of : ℕ → Option Direction
 way_of t = cond (t == 1) (Some Receives) (cond (t == 2) (Some Sends) (cond (t == 3) (Some Either) None))
 

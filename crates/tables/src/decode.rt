@@ -11,6 +11,7 @@ use crate::section::Section;
 #[derive(Clone, Copy, PartialEq, Eq, Debug)]
 pub struct NoForm;
 
+// `tail as u32` loses nothing, since a tail has 25 bits; no `From` leads from `usize` to `u32`.
 impl TryFrom<Raw> for TypeForm {
     type Error = NoForm;
 

@@ -9,7 +9,7 @@ ghost use Rattle.tables.specs.Rules.{GoodBelow, Names, Extends, Types, TypesStat
 ghost use Rattle.tables.specs.Props.{good_below_prop};
 
 use crate::form::{ExprForm, Form, TypeForm};
-use crate::row::Row;
+use crate::row::{Row, row_named};
 
 /// A row that keeps every rule, as all rows before it do.
 #[derive(Clone, Copy)]
@@ -58,10 +58,8 @@ impl<'a> GoodRow<'a> {
         ensures variable { SortAt (good_rows self.entry) result Variable }
     {
         match self.row.expr_form() {
-            Some(ExprForm::Variable { variable, .. }) => variable.unsigned_abs() as usize,
-            Some(ExprForm::Element { base, .. }) => {
-                self.earlier(base.unsigned_abs() as usize).variable()
-            }
+            Some(ExprForm::Variable { variable, .. }) => row_named(variable),
+            Some(ExprForm::Element { base, .. }) => { self.earlier(row_named(base)).variable() }
             _ => self.row.number,
         }
     }
@@ -73,9 +71,7 @@ impl<'a> GoodRow<'a> {
         ensures scalar { Scalar result }
     {
         match self.row.type_form() {
-            TypeForm::Array { element, .. } => {
-                self.earlier(element.unsigned_abs() as usize).scalar()
-            }
+            TypeForm::Array { element, .. } => { self.earlier(row_named(element)).scalar() }
             own => own,
         }
     }

@@ -7,13 +7,13 @@ ghost use Rattle.tables.specs.Cells.{cells, taken, variable_of};
 ghost use Rattle.tables.specs.Rules.{GoodBelow, Names, Extends, Types, TypesStatement, Once, Chains};
 ghost use Rattle.tables.specs.Layouts.{LaidOut};
 ghost use Rattle.tables.specs.Places.{IsPlace, IsVariable, KeepsToVariable, NeverShare, CellOf, CellType, NoSuchCell};
-ghost use Rattle.tables.specs.Props.{good_below_prop};
-ghost use Rattle.tables.specs.Props.{laid_out_prop};
+ghost use Rattle.tables.specs.Props.{good_below_prop, laid_out_prop};
 
 use crate::ends::Ends;
 use crate::form::{Form, Sort, TypeForm};
 use crate::good::GoodRow;
 use crate::layout::Layout;
+use crate::row::row_named;
 use crate::table::Table;
 
 static IDLE: [i32; 8] = [0, 0, 0, 0, 0, 1, 48, -1];
@@ -146,10 +146,7 @@ impl<'a> Model<'a> {
     fn is_place(&self, p: usize) -> bool
         ensures { IsTrue result ↔ IsPlace (model_rows self.now) p }
     {
-        match self.form(p) {
-            Some(form) => form.sort() == Sort::Place,
-            None => false,
-        }
+        self.form(p).is_some_and(|form| form.sort() == Sort::Place)
     }
 
     fn variable_of_place(&self, p: usize) -> usize
@@ -186,7 +183,7 @@ impl<'a> Model<'a> {
         ensures below { result.row.number < (model_rows self.now).types }
     {
         match self.row(v) {
-            Some(row) => row.earlier(row.row.arg().unsigned_abs() as usize),
+            Some(row) => row.earlier(row_named(row.row.arg())),
             None => unreachable(),
         }
     }

@@ -1,6 +1,6 @@
 //! What a row of a table says.
 ghost use Rattle.std.specs.Prelude.{◌≡◌, ◌<◌, pos, ◌≤ℤ◌, Some, MatchOption, ◌≢◌};
-ghost use Rattle.tables.specs.Rows.{section_of, WithinSection, kind, tail};
+ghost use Rattle.tables.specs.Rows.{section_of, WithinSection, whole, kind, tail};
 ghost use Rattle.tables.specs.Words.{rows_of};
 ghost use Rattle.tables.specs.Forms.{form_at, Decoded};
 ghost use Rattle.tables.specs.Cells.{type_at, port_at};
@@ -107,4 +107,12 @@ impl Row<'_> {
             _ => None,
         }
     }
+}
+
+/// The row that a field names, where it names one.
+pub fn row_named(field: i32) -> usize
+    ensures { result ≡ whole field }
+{
+    // no `From` leads from 32 bits to `usize`
+    field.unsigned_abs() as usize
 }

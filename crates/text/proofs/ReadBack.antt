@@ -10,7 +10,7 @@ use Rattle.text.specs.declared.scan.Class.TheVariants.{Digit}
 use Rattle.text.specs.declared.scan.Flaw.TheVariants.{TooLarge}
 use Rattle.text.specs.declared.scan.Mode.{Mode}
 use Rattle.text.specs.declared.scan.Mode.TheVariants.{Between, Minus, Number}
-use Rattle.text.specs.Scan.{class_of, step, onward, wordless, ranged, shifted, in_range}
+use Rattle.text.specs.Scan.{class_of, step, onward, wordless_step, ranged, shifted, in_range}
 use Rattle.text.specs.Meaning.{before, following, line_after, means, meaning}
 use Rattle.text.specs.Messages.{words_line}
 
@@ -60,7 +60,7 @@ begins false d = refl
 
 goes_on : (negative : Bool) (n : ℕ) → n ≤ limit negative → step (after negative (n / 10)) (Digit (n % 10)) ≡ Ok (onward (after negative n))
 goes_on negative n h =
-    ap (λ z. wordless (ranged negative z)) (shifted-number negative n) ∙ ap (λ b. wordless (cond b (Ok (after negative n)) (Err TooLarge))) (in_range_lem negative n h)
+    ap (λ z. wordless_step (ranged negative z)) (shifted-number negative n) ∙ ap (λ b. wordless_step (cond b (Ok (after negative n)) (Err TooLarge))) (in_range_lem negative n h)
 
 -- the digits of n, read from the mode before the first, lead to n
 abbrev Leads : Bool → ℕ → ℕ → List ℕ → Type 0

@@ -23,9 +23,10 @@ class_of b =
 abbrev pub onward : Mode → Step
 onward m = record { mode = m; word = None }
 
-abbrev pub wordless : Result Mode Flaw → Result Step Flaw
-wordless (Ok m) = Ok (onward m)
-wordless (Err f) = Err f
+-- the step to a mode, if there is one
+abbrev pub wordless_step : Result Mode Flaw → Result Step Flaw
+wordless_step (Ok m) = Ok (onward m)
+wordless_step (Err f) = Err f
 
 -- the mode after a byte that ends a word
 abbrev pub ending : ℤ → Mode → Step
@@ -38,9 +39,11 @@ in_range z = int_le (negsuc 2147483647) z && int_le z (pos 2147483647)
 abbrev pub shifted : Bool → ℤ → ℕ → ℤ
 shifted negative z d = if negative then pos 10 *ℤ z -ℤ pos d else pos 10 *ℤ z +ℤ pos d
 
+-- the number, if it is in range
 abbrev pub ranged : Bool → ℤ → Result Mode Flaw
 ranged negative z = if in_range z then Ok (Number (record { negative = negative; value = z })) else Err TooLarge
 
+-- the number with one digit more
 abbrev pub longer : Numeral → ℕ → Result Mode Flaw
 longer n d = ranged n.negative (shifted n.negative n.value d)
 
@@ -73,11 +76,11 @@ in_number n Blank = Ok (ending n.value Between)
 in_number n LineEnd = Ok (ending n.value Between)
 in_number n Hash = Ok (ending n.value Comment)
 in_number n Dash = Err NotANumber
-in_number n (Digit d) = wordless (longer n d)
+in_number n (Digit d) = wordless_step (longer n d)
 in_number n Other = Err NotANumber
 
 abbrev pub step : Mode → Class → Result Step Flaw
-step Between c = wordless (between c)
+step Between c = wordless_step (between c)
 step Comment c = Ok (onward (in_comment c))
-step Minus c = wordless (after_minus c)
+step Minus c = wordless_step (after_minus c)
 step (Number n) c = in_number n c

@@ -15,6 +15,7 @@ pub enum ReadError {
     NoMemory,
 }
 
+// By hand, since what a derive prints has no contract.
 impl fmt::Display for ReadError {
     ghost output = { λ e. Some (message e) };
 

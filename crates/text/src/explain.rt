@@ -5,10 +5,8 @@ ghost use Rattle.text.specs.Reasons.{extent_reason, naming_reason, rule_reason, 
 use crate::reason::Reason;
 use checking::fault::CheckFault;
 use tables::form::{Form, StmtForm, TypeForm};
+use tables::layout::MAX_LENGTH;
 use tables::rule::Rule;
-
-// The most elements that an array may have.
-const MAX_LENGTH: u32 = 1024;
 
 // What is too large about a row.
 fn extent_reason(form: Option<Form>) -> Reason

@@ -25,6 +25,7 @@ pub fn read_words(heap: Global, text: &[u8]) -> Result<Vec<i32>, ReadError>
     for &b in text {
         mode = feed(mode, Class::from(b), line, &mut words)?;
         if b == b'\n' {
+            // lines are counted; nothing is indexed by them
             line += 1;
         }
     }

@@ -10,6 +10,6 @@ undone [] cs = cs
 undone (x ∷ log) cs = slice_set (undone log cs) x.cell x.value
 
 -- the transaction that a log keeps, if there is a log
-abbrev pub logged : Option (ArrayVec Change) → List ℤ → Transaction
-logged None cs = closed
-logged (Some log) cs = opened (undone log.items cs) (array_vec_len log)
+abbrev pub log_transaction : Option (ArrayVec Change) → List ℤ → Transaction
+log_transaction None cs = closed
+log_transaction (Some log) cs = opened (undone log.items cs) (array_vec_len log)

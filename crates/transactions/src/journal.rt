@@ -3,7 +3,7 @@
 ghost use Rattle.std.specs.Prelude.{◌≡◌, None, slice_set};
 ghost use Rattle.stores.specs.Beside.{a_number};
 ghost use Rattle.stores.specs.Lending.{IsLent};
-ghost use Rattle.transactions.specs.Undo.{logged};
+ghost use Rattle.transactions.specs.Undo.{log_transaction};
 
 use crate::change::Change;
 use arrayvec::ArrayVec;
@@ -11,6 +11,7 @@ use stores::fault::StoreFault;
 use stores::store::{MAX_WRITES, PlainStore, Store, TransactionalStore};
 
 /// The token of a journal's open transaction. It cannot be let go.
+// A generic token would need a type of its own for each kind of store, to keep one from ending the other's transaction.
 pub struct JournalToken {
     made: (),
 }
@@ -57,7 +58,7 @@ impl<'a, S: PlainStore> Store for Journal<'a, S> {
 impl<'a, S: PlainStore> TransactionalStore for Journal<'a, S> {
     type Token = JournalToken;
 
-    ghost transaction = { λ j. logged j.log (S.Store.cells j.store.now) };
+    ghost transaction = { λ j. log_transaction j.log (S.Store.cells j.store.now) };
 
     ghost begun = { λ _ b. b };
 
@@ -91,6 +92,7 @@ impl<'a, S: PlainStore> TransactionalStore for Journal<'a, S> {
         if self.log.is_none() {
             return Err(StoreFault::NoTransaction);
         }
+        // (`take` would move the log, 4 KiB, out first)
         self.log = None;
         Ok(())
     }

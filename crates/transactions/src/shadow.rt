@@ -9,7 +9,7 @@ use stores::fault::StoreFault;
 use stores::store::{MAX_WRITES, Store, TransactionalStore};
 
 /// The token of a shadow store's open transaction. It cannot be let go.
-// No twin of a journal's: being of another type, it ends no transaction of a journal.
+// No twin of a journal's: see there.
 pub struct ShadowToken {
     made: (),
 }

@@ -8,7 +8,7 @@ pub returns-in-Some-Element-clause-value : goal.returns-in-Some-Element-clause-v
 returns-in-Some-Element-clause-value t c =
     let f : SFits w32 c.in-Some-Element.base = search rules in
     let e = rw c.in-Some-Element.field-0-is at c.in-Some-Element.ensures in
-    let n = simp to_z-of_z at c.unsigned_abs-in-Some-Element.ensures.value in
+    let n = simp to_z-of_z at c.row_named-in-Some-Element.ensures in
     let b = base_variable (good_rows c.args.self) c.args.self.row.number _ _ (c.args.self.good c.args.self.row.number (omega arith)) e in
     let v = c.variable.ensures.value in
     let o = c.earlier.ensures in
