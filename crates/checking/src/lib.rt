@@ -19,6 +19,7 @@ use tables::model::Model;
 use tables::table::Table;
 
 /// Fills the slot if the rows keep every rule, and notes which of them communicate.
+#[tactic(auto, using(crate::proofs::VerdictLaws::exactly))]
 pub fn check<'a>(words: &'a [i32], notes: &mut [u8], slot: &mut Model<'a>) -> Result<(), CheckFault>
     ensures verdict { Verdict words.now (length notes.old) result }
     ensures exactly { Exactly words.now (length notes.old) result }

@@ -37,6 +37,7 @@ fn refuses(words: &[i32], fault: CheckFault) -> bool
 }
 
 /// Runs the check on the worked cases: is each accepted or refused as it should be?
+#[tactic(auto, using(crate::proofs::WorkedLaws::cases), unfolding(tables::specs::Words::rows_of))]
 pub fn worked_cases() -> bool
     ensures cases { CasesOfTheCheck }
     ensures answers { result ≡ true }

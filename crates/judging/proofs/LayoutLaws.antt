@@ -22,6 +22,9 @@ array_cells m r length element n i b e =
 pub scalar_cells : (m : Rows) (r : ℕ) (f : TypeForm) → Is m r (TypeRow f) → Scalar f → cells m r ≡ 1
 scalar_cells m r f i s = cells_scalar m r (rw (type_at_lem m r f (is_form m r (TypeRow f) i)) s)
 
+pub interval_cells : (m : Rows) (r : ℕ) (low : ℤ) (span : ℕ) → Is m r (TypeRow (type.Interval low span)) → cells m r ≡ 1
+interval_cells m r low span i = scalar_cells m r (type.Interval low span) i tt
+
 pub variable_cells : (m : Rows) (r : ℕ) (of : ℤ) → Is m r (VariableRow of) → taken m (r + 1) ≡ taken m r + cells m (whole of)
 variable_cells m r of i = taken_more m r ∙ ap (λ o. taken m r + taken_by m o) (is_form m r (VariableRow of) i)
 
@@ -35,7 +38,7 @@ plain_type m r f (inr (inl e)) i = plain m r f type.Nat e tt (λ j. (j, tt, tt, 
 plain_type m r f (inr (inr e)) i = plain m r f type.Int e tt (λ j. (j, tt, tt, tt, tt, tt, tt)) i
 
 -- from a row's form to its cells
-pub ruleset layouts = (array_cells, scalar_cells, variable_cells, plain_type, to_z-of_z)
+pub ruleset layouts = (array_cells, interval_cells, scalar_cells, variable_cells, plain_type, to_z-of_z)
 
 -- from a named type to its cells
 pub ruleset named_types = (type_row, ints, to_z-of_z)

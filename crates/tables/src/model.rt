@@ -40,6 +40,7 @@ impl<'a> Model<'a> {
     }
 
     /// The idle model: one state, without a transition. Its lifetime is the caller's to choose, so that a slot that holds it can take other words.
+    #[tactic(auto, unfolding(crate::specs::Words::rows_of))]
     pub fn idle() -> Self
         ensures { result.table.words.now ≡ idle_words }
     {

@@ -16,6 +16,7 @@ fn size_at(words: &[i32], i: usize, most: usize) -> Option<usize>
 }
 
 // The ends of the sections, if the sizes are right and the words as many as they say.
+#[tactic(auto, unfolding(crate::specs::Words::rows_of))]
 pub(crate) fn sections(words: &[i32]) -> Option<Ends>
     ensures { MatchOption result (Sized words.now → ⊥) (λ e. Sized words.now × Laid words.now e) }
 {
