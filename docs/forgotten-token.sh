@@ -18,7 +18,7 @@ for crate in stores transactions; do
 done
 cat > "$work/crates.txt" <<'LIST'
 stores:
-transactions: stores arrayvec
+transactions: stores
 forgets: transactions stores
 LIST
 

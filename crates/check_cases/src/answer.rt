@@ -1,13 +1,12 @@
 //! What the check answers, as a line of the table of cases tells it.
 use checking::fault::CheckFault;
 use std::fmt;
-use std::num::TryFromIntError;
 
-/// The number of a refusal, and the row that it tells.
+/// The number of a refusal, and the row that it tells. A line may have any numbers, also those of no refusal.
 #[derive(Clone, Copy, PartialEq, Eq)]
 pub struct Refusal {
-    number: u8,
-    row: Option<usize>,
+    number: i32,
+    row: Option<i32>,
 }
 
 #[derive(Clone, Copy, PartialEq, Eq)]
@@ -15,7 +14,7 @@ pub struct Answer(pub Result<(), Refusal>);
 
 impl Answer {
     // The number of the refusal, 0 for accepted.
-    pub(crate) fn number(self) -> u8 {
+    pub(crate) fn number(self) -> i32 {
         self.0.err().map_or(0, |refusal| refusal.number)
     }
 }
@@ -23,28 +22,28 @@ impl Answer {
 impl From<CheckFault> for Refusal {
     fn from(fault: CheckFault) -> Refusal {
         Refusal {
-            number: fault.number(),
-            row: fault.row(),
+            number: i32::from(fault.number()),
+            row: fault
+                .row()
+                .map(|row| i32::try_from(row).unwrap_or(i32::MAX)),
         }
     }
 }
 
 // A number and a row, 0 and -1 for none.
-impl TryFrom<(i32, i32)> for Answer {
-    type Error = TryFromIntError;
-
-    fn try_from(told: (i32, i32)) -> Result<Answer, TryFromIntError> {
+impl From<(i32, i32)> for Answer {
+    fn from(told: (i32, i32)) -> Answer {
         let (number, row) = told;
         if told == (0, -1) {
-            return Ok(Answer(Ok(())));
+            return Answer(Ok(()));
         }
-        Ok(Answer(Err(Refusal {
-            number: u8::try_from(number)?,
+        Answer(Err(Refusal {
+            number,
             row: match row {
                 -1 => None,
-                row => Some(usize::try_from(row)?),
+                row => Some(row),
             },
-        })))
+        }))
     }
 }
 

@@ -2,7 +2,6 @@
 use crate::answer::{Answer, Refusal};
 use checking::check;
 use std::alloc::{AllocError, Global};
-use std::num::TryFromIntError;
 use tables::model::Model;
 
 #[derive(Clone, Copy)]
@@ -13,16 +12,17 @@ pub struct Case<'a> {
 }
 
 impl<'a> Case<'a> {
-    // The case of a line, if it has one.
-    pub(crate) fn of(line: &'a [i32]) -> Result<Option<Case<'a>>, TryFromIntError> {
+    // The case of a line, if it has one. A sign of the number of notes does not count.
+    pub(crate) fn of(line: &'a [i32]) -> Option<Case<'a>> {
         let [number, row, notes, words @ ..] = line else {
-            return Ok(None);
+            return None;
         };
-        Ok(Some(Case {
-            expected: Answer::try_from((*number, *row))?,
-            notes: usize::try_from(*notes)?,
+        Some(Case {
+            expected: Answer::from((*number, *row)),
+            // no `From` leads from 32 bits to `usize`
+            notes: notes.unsigned_abs() as usize,
             words,
-        }))
+        })
     }
 
     // What the check answers.

@@ -25,7 +25,7 @@ fn run(rt: &HostRuntime) -> anyhow::Result<()> {
         let words = read_words(rt.alloc(), line.as_bytes()).map_err(|_| anyhow!(
             "a line is not made of numbers"
         ))?;
-        let Some(case) = Case::of(words.as_slice())? else {
+        let Some(case) = Case::of(words.as_slice()) else {
             continue;
         };
         let answer = case.judge(rt.alloc())?;

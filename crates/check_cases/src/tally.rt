@@ -18,7 +18,9 @@ impl Tally {
     }
 
     pub(crate) fn count(&mut self, expected: Answer, answer: Answer) {
-        if let Some(cases) = self.cases.get_mut(usize::from(expected.number())) {
+        // no `From` leads from 32 bits to `usize`
+        let number = expected.number().unsigned_abs() as usize;
+        if let Some(cases) = self.cases.get_mut(number) {
             *cases = cases.saturating_add(1);
         }
         if answer != expected {
