@@ -57,12 +57,12 @@ fn put_back<S: PlainStore>(store: &mut S, entry: &Change)
 
 // Puts all entries back, the last first.
 #[tactic(auto, using(crate::proofs::Undoing::undoing))]
-fn put_all_back<S: PlainStore>(store: &mut S, log: &[Change])
-    ensures cells { S.Store.cells store.new ≡ undone log.now (S.Store.cells store.old) }
+fn put_all_back<S: PlainStore>(store: &mut S, entries: &[Change])
+    ensures cells { S.Store.cells store.new ≡ undone entries.now (S.Store.cells store.old) }
     ensures length { length (S.Store.cells store.new) ≡ length (S.Store.cells store.old) }
     ensures beside { S.Store.beside store.new ≡ S.Store.beside store.old }
 {
-    for entry in log.iter().rev() {
+    for entry in entries.iter().rev() {
         put_back(store, entry);
     }
 }
